@@ -1,0 +1,147 @@
+-- The places at which a test holds: the list of them, how many there are, the lowest.
+-- Assumes nothing.
+use Prim.Native.Nat.{ℕ, zero, suc, _+_, _-_, _<_, _≤_}
+use native.Mathlib.Nat.{add-zero}
+use native.Mathlib.Numerals.{add-one}
+use native.Mathlib.Omega.{arith}
+use mathlib.Core.Path.{_≡_, refl, ap, ap₂, sym, _∙_}
+use mathlib.Core.Logic.{_⊎_, ⊎-elim}
+use mathlib.Core.Bool.{Bool, true, false, false≢true}
+use mathlib.Core.List.{List, [], _∷_, _++_}
+use lib.ListN.{length, getD, length-append}
+use Rattle.base.specs.Tests.{equal-or}
+
+-- the places among the n from i on at which p holds, rising
+unfoldable pub places : (ℕ → Bool) → ℕ → ℕ → List ℕ
+places p i zero = []
+places p i (suc n) = elim (p i) [ true ↦ i ∷ places p (i + 1) n | false ↦ places p (i + 1) n ]
+
+-- how many these are
+unfoldable pub count : (ℕ → Bool) → ℕ → ℕ → ℕ
+count p i n = length (places p i n)
+
+-- the lowest of them, i + n if there is none
+unfoldable pub lowest : (ℕ → Bool) → ℕ → ℕ → ℕ
+lowest p i n = getD (places p i n) 0 (i + n)
+
+-- r is the lowest of them, said without the list
+pub record Lowest (p : ℕ → Bool) (i n r : ℕ) : Type 0 where
+  pub from : i ≤ r
+  pub within : r ≤ i + n
+  pub before : (k : ℕ) → i ≤ k → k < r → p k ≡ false
+  pub here : r < i + n → p r ≡ true
+
+-- ---- one place
+
+pub places-yes : (p : ℕ → Bool) (i n : ℕ) → p i ≡ true → places p i (suc n) ≡ i ∷ places p (i + 1) n
+unfolding places
+places-yes p i n e = rw (e, places)
+
+pub places-no : (p : ℕ → Bool) (i n : ℕ) → p i ≡ false → places p i (suc n) ≡ places p (i + 1) n
+unfolding places
+places-no p i n e = rw (e, places)
+
+-- ---- tests that agree, ranges that follow one another, ranges with no place
+
+pub places-agree : (p q : ℕ → Bool) (i n : ℕ) → ((k : ℕ) → i ≤ k → k < i + n → p k ≡ q k) → places p i n ≡ places q i n
+unfolding places
+places-agree p q i zero h = refl
+places-agree p q i (suc n) h = go (q i) refl (places-agree p q (i + 1) n (λ k a b. h k (omega arith) (omega arith)))
+  where
+    go : (t : Bool) → q i ≡ t → places p (i + 1) n ≡ places q (i + 1) n → places p i (suc n) ≡ places q i (suc n)
+    go true e ih = places-yes p i n (h i (omega arith) (omega arith) ∙ e) ∙ ap (λ ks. i ∷ ks) ih ∙ sym (places-yes q i n e)
+    go false e ih = places-no p i n (h i (omega arith) (omega arith) ∙ e) ∙ ih ∙ sym (places-no q i n e)
+
+pub places-split : (p : ℕ → Bool) (i n m : ℕ) → places p i (n + m) ≡ places p i n ++ places p (i + n) m
+unfolding places
+places-split p i zero m =
+    let a : zero + m ≡ m = omega arith in
+    let b : i + zero ≡ i = omega arith in
+    rw (a, b)
+places-split p i (suc n) m = go (p i) refl (places-split p (i + 1) n m)
+  where
+    a : suc n + m ≡ suc (n + m)
+    a = omega arith
+
+    b : i + suc n ≡ i + 1 + n
+    b = omega arith
+
+    go : (t : Bool) → p i ≡ t → places p (i + 1) (n + m) ≡ places p (i + 1) n ++ places p (i + 1 + n) m
+        → places p i (suc n + m) ≡ places p i (suc n) ++ places p (i + suc n) m
+    go true e ih = rw (a, b, places-yes p i (n + m) e, places-yes p i n e, ih)
+    go false e ih = rw (a, b, places-no p i (n + m) e, places-no p i n e, ih)
+
+pub places-none : (p : ℕ → Bool) (i n : ℕ) → ((k : ℕ) → i ≤ k → k < i + n → p k ≡ false) → places p i n ≡ []
+unfolding places
+places-none p i zero h = refl
+places-none p i (suc n) h =
+    places-no p i n (h i (omega arith) (omega arith)) ∙ places-none p (i + 1) n (λ k a b. h k (omega arith) (omega arith))
+
+-- ---- how many
+
+pub count-split : (p : ℕ → Bool) (i n m : ℕ) → count p i (n + m) ≡ count p i n + count p (i + n) m
+unfolding count
+count-split p i n m = ap length (places-split p i n m) ∙ length-append (places p i n) (places p (i + n) m)
+
+pub count-agree : (p q : ℕ → Bool) (i n : ℕ) → ((k : ℕ) → i ≤ k → k < i + n → p k ≡ q k) → count p i n ≡ count q i n
+unfolding count
+count-agree p q i n h = ap length (places-agree p q i n h)
+
+pub count-none : (p : ℕ → Bool) (i n : ℕ) → ((k : ℕ) → i ≤ k → k < i + n → p k ≡ false) → count p i n ≡ 0
+unfolding count
+count-none p i n h = ap length (places-none p i n h)
+
+pub count-most : (p : ℕ → Bool) (i n : ℕ) → count p i n ≤ n
+unfolding count places
+count-most p i zero = omega arith
+count-most p i (suc n) = go (p i) refl (count-most p (i + 1) n)
+  where
+    go : (t : Bool) → p i ≡ t → count p (i + 1) n ≤ n → length (places p i (suc n)) ≤ suc n
+    go true e ih = rw (places-yes p i n e) (omega arith)
+    go false e ih = rw (places-no p i n e) (omega arith)
+
+-- ---- the lowest
+
+lowest-here : (p : ℕ → Bool) (i n : ℕ) → p i ≡ true → lowest p i (suc n) ≡ i
+unfolding lowest
+lowest-here p i n e = rw (places-yes p i n e)
+
+lowest-past : (p : ℕ → Bool) (i n : ℕ) → p i ≡ false → lowest p i (suc n) ≡ lowest p (i + 1) n
+unfolding lowest
+lowest-past p i n e =
+    let a : i + suc n ≡ i + 1 + n = omega arith in
+    rw (places-no p i n e, a)
+
+-- the lowest is that place, and no other number is
+pub lowest-only : (p : ℕ → Bool) (i n r : ℕ) → Lowest p i n r → r ≡ lowest p i n
+unfolding lowest places
+lowest-only p i zero r l = omega (arith, l .from, l .within)
+lowest-only p i (suc n) r l = ⊎-elim at (past (lowest-only p (i + 1) n r)) (equal-or r i)
+  where
+    at : r ≡ i → r ≡ lowest p i (suc n)
+    at e = e ∙ sym (lowest-here p i n (rw e at (l .here (omega (arith, l .within)))))
+
+    past : (Lowest p (i + 1) n r → r ≡ lowest p (i + 1) n) → (r ≡ i → ⊥) → r ≡ lowest p i (suc n)
+    past ih ne =
+        ih (record {
+          from = omega (arith, l .from);
+          within = omega (arith, l .within);
+          before = λ k a b. l .before k (omega arith) b;
+          here = λ h. l .here (omega arith);
+        })
+        ∙ sym (lowest-past p i n (l .before i (omega arith) (omega (arith, l .from))))
+
+pub lowest-is : (p : ℕ → Bool) (i n : ℕ) → Lowest p i n (lowest p i n)
+unfolding lowest places
+lowest-is p i zero = record { from = omega arith; within = omega arith; before = λ k a b. absurd (omega arith); here = λ h. absurd (omega arith) }
+lowest-is p i (suc n) = go (p i) refl (lowest-is p (i + 1) n)
+  where
+    go : (t : Bool) → p i ≡ t → Lowest p (i + 1) n (lowest p (i + 1) n) → Lowest p i (suc n) (lowest p i (suc n))
+    go true e l = rw (lowest-here p i n e) (record { from = omega arith; within = omega arith; before = λ k a b. absurd (omega arith); here = λ h. e })
+    go false e l =
+        rw (lowest-past p i n e) (record {
+          from = omega (arith, l .from);
+          within = omega (arith, l .within);
+          before = λ k a b. ⊎-elim (λ q. rw q e) (λ q. l .before k (omega arith) b) (equal-or k i);
+          here = λ h. l .here (omega arith);
+        })
