@@ -1,2 +1,4 @@
 pub mod Tests
 pub mod Places
+pub mod Rising
+pub mod Each

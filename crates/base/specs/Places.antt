@@ -102,11 +102,11 @@ count-most p i (suc n) = go (p i) refl (count-most p (i + 1) n)
 
 -- ---- the lowest
 
-lowest-here : (p : ℕ → Bool) (i n : ℕ) → p i ≡ true → lowest p i (suc n) ≡ i
+pub lowest-here : (p : ℕ → Bool) (i n : ℕ) → p i ≡ true → lowest p i (suc n) ≡ i
 unfolding lowest
 lowest-here p i n e = rw (places-yes p i n e)
 
-lowest-past : (p : ℕ → Bool) (i n : ℕ) → p i ≡ false → lowest p i (suc n) ≡ lowest p (i + 1) n
+pub lowest-past : (p : ℕ → Bool) (i n : ℕ) → p i ≡ false → lowest p i (suc n) ≡ lowest p (i + 1) n
 unfolding lowest
 lowest-past p i n e =
     let a : i + suc n ≡ i + 1 + n = omega arith in
@@ -145,3 +145,35 @@ lowest-is p i (suc n) = go (p i) refl (lowest-is p (i + 1) n)
           before = λ k a b. ⊎-elim (λ q. rw q e) (λ q. l .before k (omega arith) b) (equal-or k i);
           here = λ h. l .here (omega arith);
         })
+
+-- a range with no place is passed over
+pub lowest-skip : (p : ℕ → Bool) (i n m : ℕ) → ((k : ℕ) → i ≤ k → k < i + n → p k ≡ false) → lowest p i (n + m) ≡ lowest p (i + n) m
+unfolding lowest
+lowest-skip p i n m h =
+    let a : i + (n + m) ≡ i + n + m = omega arith in
+    rw (places-split p i n m, places-none p i n h, a)
+
+-- the lowest place comes first, and the others are the places of the test without it
+pub places-first : (p q : ℕ → Bool) (i n r : ℕ) → Lowest p i n r → r < i + n → q r ≡ false → ((k : ℕ) → (k ≡ r → ⊥) → q k ≡ p k)
+    → places p i n ≡ r ∷ places q i n
+places-first p q i n r l h off same =
+    rw (range, places-split p i (r - i) (suc m), places-split q i (r - i) (suc m), at)
+    (rw (
+      none p (λ k a b. l .before k a (omega arith)),
+      none q (λ k a b. same k (λ e. omega arith) ∙ l .before k a (omega arith)),
+      places-yes p r m (l .here h),
+      places-no q r m off,
+    )
+    (ap (λ ks. r ∷ ks) (places-agree p q (r + 1) m (λ k a b. sym (same k (λ e. omega arith))))))
+  where
+    m : ℕ
+    m = n - (r - i) - 1
+
+    range : n ≡ (r - i) + suc m
+    range = omega (arith, l .from)
+
+    at : i + (r - i) ≡ r
+    at = omega (arith, l .from)
+
+    none : (t : ℕ → Bool) → ((k : ℕ) → i ≤ k → k < r → t k ≡ false) → places t i (r - i) ≡ []
+    none t f = places-none t i (r - i) (λ k a b. f k a (omega (arith, at)))

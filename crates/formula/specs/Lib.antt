@@ -1,0 +1,11 @@
+pub mod Formula
+pub mod Satisfaction
+pub mod Reduct
+pub mod Stable
+pub mod Class
+pub mod Rank
+pub mod Head
+pub mod Root
+pub mod Plan
+pub mod Support
+pub mod Passes

@@ -1,0 +1,3 @@
+pub mod Steps
+pub mod Admitted
+pub mod Meaning

@@ -1,0 +1,11 @@
+pub mod Refusal
+pub mod Limits
+pub mod Node
+pub mod Admission
+pub mod WellFormed
+pub mod Spans
+pub mod Refusals
+pub mod NodeFormula
+pub mod NodeTruth
+pub mod NodeClass
+pub mod NodeRank

@@ -1,0 +1,31 @@
+-- Tables in the form that document 01 gives: known kinds, atoms below `atoms`, operands below their node, spans one after the other, roots that are nodes.
+-- Assumes nothing.
+use Prim.Native.Nat.{ℕ, _+_, _<_, _≤_}
+use mathlib.Core.Path.{_≡_}
+use mathlib.Core.List.{List}
+use lib.ListN.{getD}
+use Rattle.base.specs.Each.{Each}
+use Rattle.theory.specs.Node.{nodeAt, span}
+use Rattle.theory.specs.Admission.{spanStart}
+use Rattle.theory.specs.declared.Counts.{Counts}
+use Rattle.theory.specs.declared.Node.{Node}
+use Rattle.theory.specs.declared.Node.the-variants.{Atom, False, Implies, And, Or, Unknown}
+
+-- the span of node k, an And or an Or
+pub record SpanFormed (t : Counts) (operands : List ℕ) (start k s c : ℕ) : Type 0 where
+  pub begins : s ≡ start
+  pub some : 0 < c
+  pub fits : s + c ≤ t .operands
+  pub lower : Each (λ o. o < k) (span operands s c)
+
+abbrev pub NodeFormed : Counts → List ℕ → ℕ → ℕ → Node → Type 0
+NodeFormed t operands start k (Atom a) = a < t .atoms
+NodeFormed t operands start k False = Unit {0}
+NodeFormed t operands start k (Implies l r) = (l < k) × (r < k)
+NodeFormed t operands start k (And s c) = SpanFormed t operands start k s c
+NodeFormed t operands start k (Or s c) = SpanFormed t operands start k s c
+NodeFormed t operands start k Unknown = ⊥
+
+pub record WellFormed (t : Counts) (nodes operands roots : List ℕ) : Type 0 where
+  pub node : (k : ℕ) → k < t .nodes → NodeFormed t operands (spanStart nodes k) k (nodeAt nodes k)
+  pub root : (i : ℕ) → i < t .roots → getD roots i 0 < t .nodes

@@ -1,0 +1,43 @@
+// Words lent in slices: read as numbers, and as sets of bits.
+ghost use mathlib.Core.Path.{_≡_};
+ghost use Prim.Native.Nat.{_<_};
+ghost use lib.ListN.{length, getD};
+ghost use Rattle.base.specs.Places.{places};
+ghost use Rattle.words.specs.Bit.{bit};
+
+pub mod set32;
+pub mod set64;
+
+// Word i of a table, as a number.
+pub fn word(table: &[u32], i: usize) -> usize
+    requires { ⌜ i < length (now table) ⌝ }
+    ensures { λ r. ⌜ r ≡ getD (now (table .entry)) i 0 ⌝ }
+    ensures { λ r. ⌜ r < 4294967296 ⌝ }
+{
+    table[i] as usize
+}
+
+// The same of a table of 64 bits a word.
+pub fn word64(table: &[u64], i: usize) -> usize
+    requires { ⌜ i < length (now table) ⌝ }
+    ensures { λ r. ⌜ r ≡ getD (now (table .entry)) i 0 ⌝ }
+{
+    let x = table[i];
+    x as usize
+}
+
+// The word's set place number i, rising from i = 0, or 64 if there are not so many.
+pub fn bits(word: u64, i: usize) -> u32
+    ensures { λ r. ⌜ r ≡ getD (places (bit word) 0 64) i 64 ⌝ }
+{
+    let mut laid = [0u32; 64];
+    let mut n = 0;
+    let mut x = word;
+    while x != 0 {
+        let t = u64::trailing_zeros(x);
+        laid[n] = t;
+        x = x ^ (1u64 << t);
+        n += 1;
+    }
+    if i < n { laid[i] } else { 64 }
+}

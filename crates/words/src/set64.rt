@@ -1,0 +1,81 @@
+// Sets of numbers in words of 64 bits.
+ghost use mathlib.Core.Path.{_≡_};
+ghost use Prim.Native.Nat.{_*_, _/_, _^_, _<_, _≤_};
+ghost use lib.ListN.{length};
+ghost use Rattle.base.specs.Places.{lowest};
+ghost use Rattle.words.specs.Bit.{bit};
+ghost use Rattle.words.specs.Sets.{member, inserted, removed};
+ghost use Rattle.words.specs.Changed.{changed};
+ghost use Rattle.words.specs.Next.{next};
+
+pub fn has(words: &[u64], i: usize) -> bool
+    requires { ⌜ i / 64 < length (now words) ⌝ }
+    ensures { λ r. ⌜ r ≡ member 64 (now (words .entry)) i ⌝ }
+{
+    (words[i / 64] >> (i % 64)) % 2 == 1
+}
+
+pub fn insert(words: &mut [u64], i: usize)
+    requires { ⌜ i / 64 < length (now words) ⌝ }
+    ensures { λ _. ⌜ now (words .exit) ≡ inserted 64 (now (words .entry)) i ⌝ }
+{
+    let q = i / 64;
+    words[q] = words[q] | (1u64 << (i % 64));
+}
+
+pub fn remove(words: &mut [u64], i: usize)
+    requires { ⌜ i / 64 < length (now words) ⌝ }
+    ensures { λ _. ⌜ now (words .exit) ≡ removed 64 (now (words .entry)) i ⌝ }
+{
+    let q = i / 64;
+    let m = 1u64 << (i % 64);
+    words[q] = (words[q] | m) ^ m;
+}
+
+// At how many places the words differ.
+pub fn changed(old: u64, new: u64) -> u32
+    ensures { λ r. ⌜ r ≡ changed 64 old new ⌝ }
+{
+    u64::count_ones(old ^ new)
+}
+
+// The lowest set place of the word x, 64 if there is none.
+pub fn lowest(x: u64) -> u32
+    ensures { λ r. ⌜ r ≡ lowest (bit x) 0 64 ⌝ }
+{
+    u64::trailing_zeros(x)
+}
+
+// The lowest member from `from` on, or 64 times the number of words if there is none.
+pub fn next(words: &[u64], from: usize) -> usize
+    requires { ⌜ from ≤ 64 * length (now words) ⌝ }
+    requires { ⌜ 64 * length (now words) < 2 ^ 64 ⌝ }
+    ensures { λ r. ⌜ r ≡ next 64 (now (words .entry)) from ⌝ }
+{
+    let q = from / 64;
+    if words.len() <= q {
+        return from;
+    }
+    let rest = words[q] >> (from % 64);
+    if rest == 0 {
+        return next_word(words, q + 1);
+    }
+    from + u64::trailing_zeros(rest) as usize
+}
+
+// The same from the start of word `first` on.
+fn next_word(words: &[u64], first: usize) -> usize
+    requires { ⌜ first ≤ length (now words) ⌝ }
+    requires { ⌜ 64 * length (now words) < 2 ^ 64 ⌝ }
+    ensures { λ r. ⌜ r ≡ next 64 (now (words .entry)) (64 * first) ⌝ }
+{
+    let mut q = first;
+    while q < words.len() {
+        let x = words[q];
+        if x != 0 {
+            return 64 * q + u64::trailing_zeros(x) as usize;
+        }
+        q += 1;
+    }
+    64 * q
+}
