@@ -1,0 +1,4 @@
+pub mod ClassWord
+pub mod Head
+pub mod Producer
+pub mod Greatest
