@@ -11,6 +11,10 @@ use Rattle.theory.specs.Node.{nodeAt}
 use Rattle.theory.specs.NodeClass.{isFalse}
 use Rattle.theory.specs.declared.Node.{Node}
 use Rattle.theory.specs.declared.Node.the-variants.{Atom, False, Implies, And, Or, Unknown}
+use Rattle.compile.specs.declared.Found.{Found}
+use Rattle.compile.specs.declared.Found.the-variants.{At, Nowhere}
+use Rattle.compile.specs.declared.Headed.{Headed}
+use Rattle.compile.specs.declared.Headed.the-variants.{Normal, Choice, Unsupported}
 
 abbrev pub asAtom : Node → Option ℕ
 asAtom (Atom a) = some a
@@ -33,7 +37,7 @@ denies nodes p Unknown = false
 unfoldable pub chosen : List ℕ → ℕ → ℕ → Option ℕ
 chosen nodes p q = cond (denies nodes p (nodeAt nodes q)) (asAtom (nodeAt nodes p)) none
 
-abbrev pub eitherOrder : Option ℕ → Option ℕ → Option Head
+unfoldable pub eitherOrder : Option ℕ → Option ℕ → Option Head
 eitherOrder (some a) other = some (choice a)
 eitherOrder none (some a) = some (flipped a)
 eitherOrder none none = none
@@ -46,3 +50,15 @@ headOf nodes operands (And s c) = none
 headOf nodes operands (Or s c) =
     cond (eqb c 2) (eitherOrder (chosen nodes (getD operands s 0) (getD operands (s + 1) 0)) (chosen nodes (getD operands (s + 1) 0) (getD operands s 0))) none
 headOf nodes operands Unknown = none
+
+-- ---- what the code answers
+
+unfoldable pub foundOf : Option ℕ → Found
+foundOf none = Nowhere
+foundOf (some a) = At a
+
+unfoldable pub headedOf : Option Head → Headed
+headedOf none = Unsupported
+headedOf (some (normal a)) = Normal a
+headedOf (some (choice a)) = Choice a
+headedOf (some (flipped a)) = Choice a

@@ -1,4 +1,5 @@
 pub mod ClassWord
 pub mod Head
 pub mod Producer
+pub mod ProducerLaws
 pub mod Greatest

@@ -27,12 +27,12 @@ abbrev pub producer : ℕ → ℕ → Head → Producer
 producer root body h = record { head = headAtom h; body = body; root = root; kind = kindWord h }
 
 -- a head without body; the head is tested before the body
-abbrev pub fact : ℕ → Option Head → Produced
+unfoldable pub fact : ℕ → Option Head → Produced
 fact root none = Refused (UnsupportedRoot root)
 fact root (some h) = Made (producer root 0 h)
 
 -- a head with a body; classes are class words, 2 is Opaque
-abbrev pub rule : List ℕ → ℕ → ℕ → Option Head → Produced
+unfoldable pub rule : List ℕ → ℕ → ℕ → Option Head → Produced
 rule classes root body none = Refused (UnsupportedRoot root)
 rule classes root body (some h) = cond (eqb (getD classes body 0) 2) (Refused (UnsupportedBody root body)) (Made (producer root (body + 1) h))
 

@@ -9,6 +9,9 @@ ghost use Rattle.theory.specs.WellFormed.{NodeTables};
 ghost use Rattle.theory.specs.Spans.{Indexed};
 ghost use Rattle.compile.specs.ClassWord.{nodeClassWord, classWords};
 ghost use Rattle.compile.specs.Greatest.{greatestOf};
+ghost use Rattle.compile.specs.Head.{asAtom, chosen, eitherOrder, headOf, foundOf, headedOf};
+ghost use Rattle.compile.specs.Producer.{fact, rule, produced};
+ghost use Rattle.compile.specs.ProducerLaws.{bodied};
 use theory::Counts;
 use theory::Node;
 use theory::Refusal;
@@ -25,6 +28,19 @@ pub enum Produced {
     Nothing,
     Made(Producer),
     Refused(Refusal),
+}
+
+// The atom of a node, if it is an Atom.
+pub enum Found {
+    At(usize),
+    Nowhere,
+}
+
+// What kind of head a node is, and of which atom.
+pub enum Headed {
+    Normal(usize),
+    Choice(usize),
+    Unsupported,
 }
 
 // The greatest of the values that the count operands from start on have.
@@ -92,5 +108,162 @@ pub fn classify(counts: Counts, nodes: &[u32], operands: &[u32], classes: &mut [
         let class = classify_node(counts, nodes, operands, classes, k);
         classes[k] = class as u32;
         k += 1;
+    }
+}
+
+fn atom_at(nodes: &[u32], p: usize) -> Found
+    requires { ⌜ 3 * p + 2 < length (now nodes) ⌝ }
+    ensures { λ r. ⌜ r ≡ foundOf (asAtom (nodeAt (now (nodes .entry)) p)) ⌝ }
+{
+    match theory::view(nodes, p) {
+        Node::Atom(a) => Found::At(a),
+        Node::False => Found::Nowhere,
+        Node::Implies(_, _) => Found::Nowhere,
+        Node::And(_, _) => Found::Nowhere,
+        Node::Or(_, _) => Found::Nowhere,
+        Node::Unknown => Found::Nowhere,
+    }
+}
+
+// The atom of node p, if node q is an Implies from p to a False node.
+fn choice_of(counts: Counts, nodes: &[u32], operands: &[u32], p: usize, q: usize) -> Found
+    requires { ⌜ (p < counts .nodes) × (q < counts .nodes) × NodeTables counts (now nodes) (now operands) ⌝ }
+    ensures { λ r. ⌜ r ≡ foundOf (chosen (now (nodes .entry)) p q) ⌝ }
+{
+    match theory::view(nodes, q) {
+        Node::Implies(left, right) => {
+            if left != p {
+                return Found::Nowhere;
+            }
+            if is_false(nodes, right) {
+                atom_at(nodes, p)
+            } else {
+                Found::Nowhere
+            }
+        }
+        Node::Atom(_) => Found::Nowhere,
+        Node::False => Found::Nowhere,
+        Node::And(_, _) => Found::Nowhere,
+        Node::Or(_, _) => Found::Nowhere,
+        Node::Unknown => Found::Nowhere,
+    }
+}
+
+// The head that an Or of the two operands p and q makes.
+fn choice_head(counts: Counts, nodes: &[u32], operands: &[u32], p: usize, q: usize) -> Headed
+    requires { ⌜ (p < counts .nodes) × (q < counts .nodes) × NodeTables counts (now nodes) (now operands) ⌝ }
+    ensures { λ r. ⌜ r ≡ headedOf (eitherOrder (chosen (now (nodes .entry)) p q) (chosen (now (nodes .entry)) q p)) ⌝ }
+{
+    let first = choice_of(counts, nodes, operands, p, q);
+    if let Found::At(a) = first {
+        return Headed::Choice(a);
+    }
+    match choice_of(counts, nodes, operands, q, p) {
+        Found::At(a) => Headed::Choice(a),
+        Found::Nowhere => Headed::Unsupported,
+    }
+}
+
+// The head that node k makes.
+fn head_of(counts: Counts, nodes: &[u32], operands: &[u32], k: usize) -> Headed
+    requires { ⌜ (k < counts .nodes) × NodeTables counts (now nodes) (now operands) ⌝ }
+    ensures { λ r. ⌜ r ≡ headedOf (headOf (now (nodes .entry)) (now (operands .entry)) (nodeAt (now (nodes .entry)) k)) ⌝ }
+{
+    match theory::view(nodes, k) {
+        Node::Atom(a) => Headed::Normal(a),
+        Node::Or(s, c) => {
+            if c != 2 {
+                return Headed::Unsupported;
+            }
+            let p = words::word(operands, s);
+            let q = words::word(operands, s + 1);
+            choice_head(counts, nodes, operands, p, q)
+        }
+        Node::False => Headed::Unsupported,
+        Node::Implies(_, _) => Headed::Unsupported,
+        Node::And(_, _) => Headed::Unsupported,
+        Node::Unknown => Headed::Unsupported,
+    }
+}
+
+// A head with a body: an Opaque body is refused.
+fn with_body(classes: &[u32], root: usize, body: usize, head: usize, kind: usize) -> Produced
+    requires { ⌜ body < length (now classes) ⌝ }
+    ensures { λ r. ⌜ r ≡ bodied (now (classes .entry)) root body head kind ⌝ }
+{
+    if words::word(classes, body) == 2 {
+        return Produced::Refused(Refusal::UnsupportedBody(root, body));
+    }
+    Produced::Made(Producer {
+        head,
+        body: body + 1,
+        root,
+        kind,
+    })
+}
+
+fn produce_rule(
+    counts: Counts,
+    nodes: &[u32],
+    operands: &[u32],
+    classes: &[u32],
+    root: usize,
+    body: usize,
+    head: usize,
+) -> Produced
+    requires { ⌜ (body < length (now classes)) × (head < counts .nodes) × NodeTables counts (now nodes) (now operands) ⌝ }
+    ensures { λ r. ⌜ r ≡ rule (now (classes .entry)) root body (headOf (now (nodes .entry)) (now (operands .entry)) (nodeAt (now (nodes .entry)) head)) ⌝ }
+{
+    match head_of(counts, nodes, operands, head) {
+        Headed::Normal(a) => with_body(classes, root, body, a, 0),
+        Headed::Choice(a) => with_body(classes, root, body, a, 1),
+        Headed::Unsupported => Produced::Refused(Refusal::UnsupportedRoot(root)),
+    }
+}
+
+fn produce_fact(counts: Counts, nodes: &[u32], operands: &[u32], root: usize) -> Produced
+    requires { ⌜ (root < counts .nodes) × NodeTables counts (now nodes) (now operands) ⌝ }
+    ensures { λ r. ⌜ r ≡ fact root (headOf (now (nodes .entry)) (now (operands .entry)) (nodeAt (now (nodes .entry)) root)) ⌝ }
+{
+    match head_of(counts, nodes, operands, root) {
+        Headed::Normal(a) => Produced::Made(Producer {
+            head: a,
+            body: 0,
+            root,
+            kind: 0,
+        }),
+        Headed::Choice(a) => Produced::Made(Producer {
+            head: a,
+            body: 0,
+            root,
+            kind: 1,
+        }),
+        Headed::Unsupported => Produced::Refused(Refusal::UnsupportedRoot(root)),
+    }
+}
+
+// What the root's node makes: nothing, its producer, or refusal 10 or 11.
+pub fn produce(
+    counts: Counts,
+    nodes: &[u32],
+    operands: &[u32],
+    classes: &[u32],
+    root: usize,
+) -> Produced
+    requires { ⌜ (root < counts .nodes) × (counts .nodes ≤ length (now classes)) × NodeTables counts (now nodes) (now operands) ⌝ }
+    ensures { λ r. ⌜ r ≡ produced (now (nodes .entry)) (now (operands .entry)) (now (classes .entry)) root ⌝ }
+{
+    match theory::view(nodes, root) {
+        Node::False => Produced::Nothing,
+        Node::Implies(left, right) => {
+            if is_false(nodes, right) {
+                return Produced::Nothing;
+            }
+            produce_rule(counts, nodes, operands, classes, root, left, right)
+        }
+        Node::Atom(_) => produce_fact(counts, nodes, operands, root),
+        Node::And(_, _) => produce_fact(counts, nodes, operands, root),
+        Node::Or(_, _) => produce_fact(counts, nodes, operands, root),
+        Node::Unknown => produce_fact(counts, nodes, operands, root),
     }
 }
