@@ -2,4 +2,6 @@ pub mod ClassWord
 pub mod Head
 pub mod Producer
 pub mod ProducerLaws
+pub mod Producers
+pub mod ProducersLaws
 pub mod Greatest

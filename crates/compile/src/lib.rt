@@ -5,13 +5,15 @@ ghost use Prim.Native.Nat.{ℕ, _+_, _*_, _<_, _≤_};
 ghost use lib.ListN.{length, getD, drop};
 ghost use Rattle.theory.specs.Node.{nodeAt};
 ghost use Rattle.theory.specs.NodeClass.{isFalse};
-ghost use Rattle.theory.specs.WellFormed.{NodeTables};
+ghost use Rattle.theory.specs.WellFormed.{NodeTables, RootTable};
 ghost use Rattle.theory.specs.Spans.{Indexed};
 ghost use Rattle.compile.specs.ClassWord.{nodeClassWord, classWords};
 ghost use Rattle.compile.specs.Greatest.{greatestOf};
 ghost use Rattle.compile.specs.Head.{asAtom, chosen, eitherOrder, headOf, foundOf, headedOf};
 ghost use Rattle.compile.specs.Producer.{fact, rule, produced};
+ghost use Rattle.compile.specs.Producers.{refusedBy, rootsSupported};
 ghost use Rattle.compile.specs.ProducerLaws.{bodied};
+use theory::Admission;
 use theory::Counts;
 use theory::Node;
 use theory::Refusal;
@@ -266,4 +268,38 @@ pub fn produce(
         Node::Or(_, _) => produce_fact(counts, nodes, operands, root),
         Node::Unknown => produce_fact(counts, nodes, operands, root),
     }
+}
+
+fn root_supported(made: Produced) -> Admission
+    ensures { λ r. ⌜ r ≡ refusedBy made ⌝ }
+{
+    match made {
+        Produced::Nothing => Admission::Admitted,
+        Produced::Made(_) => Admission::Admitted,
+        Produced::Refused(r) => Admission::Refused(r),
+    }
+}
+
+// Refusals 10 and 11, root by root.
+pub fn roots_supported(
+    counts: Counts,
+    nodes: &[u32],
+    operands: &[u32],
+    roots: &[u32],
+    classes: &[u32],
+) -> Admission
+    requires { ⌜ (counts .nodes ≤ length (now classes)) × NodeTables counts (now nodes) (now operands) × RootTable counts (now roots) ⌝ }
+    ensures { λ r. ⌜ r ≡ rootsSupported counts (now (nodes .entry)) (now (operands .entry)) (now (classes .entry)) (now (roots .entry)) ⌝ }
+{
+    let n = counts.roots;
+    let mut i = 0;
+    while i < n {
+        let root = words::word(roots, i);
+        let admitted = root_supported(produce(counts, nodes, operands, classes, root));
+        if let Admission::Refused(r) = admitted {
+            return Admission::Refused(r);
+        }
+        i += 1;
+    }
+    Admission::Admitted
 }

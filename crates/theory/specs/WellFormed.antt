@@ -36,6 +36,11 @@ pub record NodeTables (t : Counts) (nodes operands : List ℕ) : Type 0 where
   pub operands-long : t .operands ≤ length operands
   pub formed : NodesFormed t nodes operands
 
+-- a lent root table whose roots are nodes
+pub record RootTable (t : Counts) (roots : List ℕ) : Type 0 where
+  pub roots-long : t .roots ≤ length roots
+  pub in-nodes : (i : ℕ) → i < t .roots → getD roots i 0 < t .nodes
+
 pub record WellFormed (t : Counts) (nodes operands roots : List ℕ) : Type 0 where
   pub node : NodesFormed t nodes operands
   pub root : (i : ℕ) → i < t .roots → getD roots i 0 < t .nodes
