@@ -2,3 +2,4 @@ pub mod Tests
 pub mod Places
 pub mod Rising
 pub mod Each
+pub mod Front

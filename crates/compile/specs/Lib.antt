@@ -1,5 +1,6 @@
 pub mod ClassWord
 pub mod Head
+pub mod HeadLaws
 pub mod Producer
 pub mod ProducerLaws
 pub mod Producers

@@ -1,12 +1,13 @@
 -- The turns of a loop over the roots.
 -- Assumes nothing.
-use Prim.Native.Nat.{ℕ, zero, suc, _+_, _<_, _≤_}
+use Prim.Native.Nat.{ℕ, zero, suc, _+_, _*_, _<_, _≤_}
 use native.Mathlib.Numerals.{add-one}
 use native.Mathlib.Omega.{arith}
 use mathlib.Core.Path.{_≡_, refl, sym, ap, _∙_}
 use mathlib.Core.List.{List, [], _∷_, _++_, append-assoc, append-nil}
-use lib.ListN.{length, getD, take}
+use lib.ListN.{length, getD, take, set, length-append}
 use lib.Seq.{take-suc}
+use Rattle.base.specs.Front.{front, front-more}
 use Rattle.theory.specs.declared.Admission.{Admission}
 use Rattle.compile.specs.Producer.{produced}
 use Rattle.compile.specs.Producers.{refusedBy, supportedAt, madeBy, producers, producerWords}
@@ -19,3 +20,53 @@ pub root-seen : (nodes operands classes roots : List ℕ) (i root : ℕ) (made :
     → supportedAt nodes operands classes roots i ≡ r
 unfolding supportedAt
 root-seen nodes operands classes roots i root made r p q e = rw (← p, ← q) (sym e)
+
+-- ---- the producers of the roots gone over
+
+producers-append : (nodes operands classes xs ys : List ℕ) → producers nodes operands classes (xs ++ ys) ≡ producers nodes operands classes xs ++ producers nodes operands classes ys
+unfolding producers
+producers-append nodes operands classes [] ys = refl
+producers-append nodes operands classes (x ∷ xs) ys = rw (producers-append nodes operands classes xs ys, append-assoc)
+
+-- of the roots before position i
+unfoldable pub producersBefore : List ℕ → List ℕ → List ℕ → List ℕ → ℕ → List Producer
+producersBefore nodes operands classes roots i = producers nodes operands classes (take i roots)
+
+pub producers-none : (nodes operands classes roots : List ℕ) → producersBefore nodes operands classes roots 0 ≡ []
+unfolding producersBefore producers
+producers-none nodes operands classes roots = refl
+
+pub producers-more : (nodes operands classes roots : List ℕ) (i root : ℕ) (made : Produced) → i < length roots → root ≡ getD roots i 0 → made ≡ produced nodes operands classes root
+    → producersBefore nodes operands classes roots (i + 1) ≡ producersBefore nodes operands classes roots i ++ madeBy made
+unfolding producersBefore producers
+producers-more nodes operands classes roots i root made h p q =
+    rw (add-one, take-suc roots i 0 h, producers-append nodes operands classes (take i roots) (getD roots i 0 ∷ []), append-nil, ← p, ← q)
+
+-- ---- as words
+
+words-append : (ps qs : List Producer) → producerWords (ps ++ qs) ≡ producerWords ps ++ producerWords qs
+unfolding producerWords
+words-append [] qs = refl
+words-append (p ∷ ps) qs = rw (words-append ps qs)
+
+pub length-words : (ps : List Producer) → length (producerWords ps) ≡ 4 * length ps
+unfolding producerWords
+length-words [] = refl
+length-words (p ∷ ps) = omega (arith, length-words ps)
+
+-- four words from position `at` on
+unfoldable pub stored : List ℕ → ℕ → Producer → List ℕ
+stored ws at p = set (set (set (set ws at (p .head)) (at + 1) (p .body)) (at + 2) (p .root)) (at + 3) (p .kind)
+
+pub stored-front : (ps : List Producer) (ds : List ℕ) (p : Producer) (at : ℕ) → at ≡ 4 * length ps → at + 4 ≤ length ds
+    → stored (front (producerWords ps) ds) at p ≡ front (producerWords (ps ++ (p ∷ []))) ds
+unfolding stored producerWords
+stored-front ps ds p at e h =
+    let n : at ≡ length (producerWords ps) = omega (arith, length-words ps) in
+    rw (front-more (producerWords ps) ds (p .head) at n (omega arith))
+    (rw (front-more (producerWords ps ++ (p .head ∷ [])) ds (p .body) (at + 1) (omega (arith, length-append (producerWords ps) (p .head ∷ []))) (omega arith))
+    (rw (front-more ((producerWords ps ++ (p .head ∷ [])) ++ (p .body ∷ [])) ds (p .root) (at + 2)
+    (omega (arith, length-append (producerWords ps ++ (p .head ∷ [])) (p .body ∷ []), length-append (producerWords ps) (p .head ∷ []))) (omega arith))
+    (rw (front-more (((producerWords ps ++ (p .head ∷ [])) ++ (p .body ∷ [])) ++ (p .root ∷ [])) ds (p .kind) (at + 3)
+    (omega (arith, length-append ((producerWords ps ++ (p .head ∷ [])) ++ (p .body ∷ [])) (p .root ∷ []), length-append (producerWords ps ++ (p .head ∷ [])) (p .body ∷ []), length-append (producerWords ps) (p .head ∷ []))) (omega arith))
+    (ap (λ ws. front ws ds) (rw (words-append ps (p ∷ [])) (simp append-assoc))))))
