@@ -33,7 +33,7 @@ as-atom (And s c) a e = cc
 as-atom (Or s c) a e = cc
 as-atom Unknown a e = cc
 
-is-false : (node : Node) → isFalse node ≡ true → node ≡ False
+pub is-false : (node : Node) → isFalse node ≡ true → node ≡ False
 is-false (Atom b) e = cc
 is-false False e = refl
 is-false (Implies l r) e = cc

@@ -6,3 +6,4 @@ pub mod ProducerLaws
 pub mod Producers
 pub mod ProducersLaws
 pub mod Greatest
+pub mod Roots

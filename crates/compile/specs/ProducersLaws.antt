@@ -13,6 +13,7 @@ use Rattle.compile.specs.Producer.{produced}
 use Rattle.compile.specs.Producers.{refusedBy, supportedAt, madeBy, producers, producerWords}
 use Rattle.compile.specs.declared.Producer.{Producer}
 use Rattle.compile.specs.declared.Produced.{Produced}
+use Rattle.compile.specs.declared.Produced.the-variants.{Nothing, Made, Refused}
 
 -- the root at hand, seen as the definition sees it
 pub root-seen : (nodes operands classes roots : List ℕ) (i root : ℕ) (made : Produced) (r : Admission)
@@ -70,3 +71,42 @@ stored-front ps ds p at e h =
     (rw (front-more (((producerWords ps ++ (p .head ∷ [])) ++ (p .body ∷ [])) ++ (p .root ∷ [])) ds (p .kind) (at + 3)
     (omega (arith, length-append ((producerWords ps ++ (p .head ∷ [])) ++ (p .body ∷ [])) (p .root ∷ []), length-append (producerWords ps ++ (p .head ∷ [])) (p .body ∷ []), length-append (producerWords ps) (p .head ∷ []))) (omega arith))
     (ap (λ ws. front ws ds) (rw (words-append ps (p ∷ [])) (simp append-assoc))))))
+
+-- ---- what a root makes, written behind n producers
+
+abbrev pub MadeSmall : Produced → Type 0
+MadeSmall Nothing = Unit {0}
+MadeSmall (Made p) = (p .head < 4294967296) × (p .body < 4294967296) × (p .root < 4294967296) × (p .kind < 4294967296)
+MadeSmall (Refused r) = Unit {0}
+
+unfoldable pub appended : List ℕ → ℕ → Produced → List ℕ
+appended ws n Nothing = ws
+appended ws n (Made p) = stored ws (4 * n) p
+appended ws n (Refused r) = ws
+
+pub appended-front : (ps : List Producer) (ds : List ℕ) (made : Produced) (n : ℕ) → n ≡ length ps → 4 * n + 4 ≤ length ds
+    → appended (front (producerWords ps) ds) n made ≡ front (producerWords (ps ++ madeBy made)) ds
+unfolding appended madeBy
+appended-front ps ds Nothing n e h = rw append-nil
+appended-front ps ds (Made p) n e h = stored-front ps ds p (4 * n) (rw e) h
+appended-front ps ds (Refused r) n e h = rw append-nil
+
+-- a root makes at most one producer
+pub made-one : (made : Produced) → length (madeBy made) ≤ 1
+unfolding madeBy
+made-one Nothing = omega arith
+made-one (Made p) = omega arith
+made-one (Refused r) = omega arith
+
+-- a turn of the loop that writes the producers
+module _ (nodes operands classes roots : List ℕ) (i root : ℕ) (made : Produced) (h : i < length roots) (p : root ≡ getD roots i 0) (q : made ≡ produced nodes operands classes root) where
+  pub extract-count : (n r : ℕ) → n ≡ length (producersBefore nodes operands classes roots i) → r ≡ n + length (madeBy made) → r ≡ length (producersBefore nodes operands classes roots (i + 1))
+  extract-count n r e s =
+      rw (producers-more nodes operands classes roots i root made h p q, length-append) (omega arith)
+
+  pub extract-table : (ds xs ys : List ℕ) (n : ℕ) → n ≡ length (producersBefore nodes operands classes roots i) → 4 * n + 4 ≤ length ds
+      → xs ≡ front (producerWords (producersBefore nodes operands classes roots i)) ds → ys ≡ appended xs n made
+      → ys ≡ front (producerWords (producersBefore nodes operands classes roots (i + 1))) ds
+  extract-table ds xs ys n e l a b =
+      b ∙ ap (λ ws. appended ws n made) a ∙ appended-front (producersBefore nodes operands classes roots i) ds made n e l
+      ∙ rw (producers-more nodes operands classes roots i root made h p q)

@@ -6,12 +6,15 @@ ghost use lib.ListN.{length, getD, drop};
 ghost use Rattle.theory.specs.Node.{nodeAt};
 ghost use Rattle.theory.specs.NodeClass.{isFalse};
 ghost use Rattle.theory.specs.WellFormed.{NodeTables, RootTable};
+ghost use Rattle.base.specs.Front.{front};
+ghost use Rattle.theory.specs.Limits.{Limited};
 ghost use Rattle.theory.specs.Spans.{Indexed};
 ghost use Rattle.compile.specs.ClassWord.{nodeClassWord, classWords};
 ghost use Rattle.compile.specs.Greatest.{greatestOf};
 ghost use Rattle.compile.specs.Head.{asAtom, chosen, eitherOrder, headOf, foundOf, headedOf};
 ghost use Rattle.compile.specs.Producer.{fact, rule, produced};
-ghost use Rattle.compile.specs.Producers.{refusedBy, rootsSupported};
+ghost use Rattle.compile.specs.Producers.{refusedBy, rootsSupported, madeBy, producerWords};
+ghost use Rattle.compile.specs.ProducersLaws.{stored, appended, MadeSmall, producersBefore};
 ghost use Rattle.compile.specs.ProducerLaws.{bodied};
 use theory::Admission;
 use theory::Counts;
@@ -302,4 +305,55 @@ pub fn roots_supported(
         i += 1;
     }
     Admission::Admitted
+}
+
+// Writes the producer's four words from position at on.
+fn store(table: &mut [u32], at: usize, p: Producer)
+    requires { ⌜ (at + 4 ≤ length (now table)) × (p .head < 4294967296) × (p .body < 4294967296) × (p .root < 4294967296) × (p .kind < 4294967296) ⌝ }
+    ensures { λ _. ⌜ now (table .exit) ≡ stored (now (table .entry)) at p ⌝ }
+{
+    table[at] = p.head as u32;
+    table[at + 1] = p.body as u32;
+    table[at + 2] = p.root as u32;
+    table[at + 3] = p.kind as u32;
+}
+
+// Writes what the root makes behind the n producers that stand in the table; answers how many stand there then.
+fn append(table: &mut [u32], n: usize, made: Produced) -> usize
+    requires { ⌜ (4 * n + 4 ≤ length (now table)) × MadeSmall made × (n < 4294967296) ⌝ }
+    ensures { λ r. ⌜ (r ≡ n + length (madeBy made)) × (now (table .exit) ≡ appended (now (table .entry)) n made) ⌝ }
+{
+    match made {
+        Produced::Made(p) => {
+            store(table, 4 * n, p);
+            n + 1
+        }
+        Produced::Nothing => n,
+        Produced::Refused(_) => n,
+    }
+}
+
+// Writes the producers of all roots, in root order; answers their number.
+pub fn extract(
+    counts: Counts,
+    nodes: &[u32],
+    operands: &[u32],
+    roots: &[u32],
+    classes: &[u32],
+    table: &mut [u32],
+) -> usize
+    requires { ⌜ (counts .nodes ≤ length (now classes)) × (4 * counts .roots ≤ length (now table)) × Limited counts × NodeTables counts (now nodes) (now operands) × RootTable counts (now roots) ⌝ }
+    ensures { λ r. ⌜ r ≡ length (producersBefore (now (nodes .entry)) (now (operands .entry)) (now (classes .entry)) (now (roots .entry)) (counts .roots)) ⌝ }
+    ensures { λ r. ⌜ now (table .exit) ≡ front (producerWords (producersBefore (now (nodes .entry)) (now (operands .entry)) (now (classes .entry)) (now (roots .entry)) (counts .roots))) (now (table .entry)) ⌝ }
+{
+    let n = counts.roots;
+    let mut made = 0;
+    let mut i = 0;
+    while i < n {
+        let root = words::word(roots, i);
+        let produced = produce(counts, nodes, operands, classes, root);
+        made = append(table, made, produced);
+        i += 1;
+    }
+    made
 }
