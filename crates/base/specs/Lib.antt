@@ -3,3 +3,4 @@ pub mod Places
 pub mod Rising
 pub mod Each
 pub mod Front
+pub mod Gather

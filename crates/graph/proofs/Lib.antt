@@ -1,0 +1,5 @@
+pub mod Rounds
+pub mod Depths
+pub mod Paths
+pub mod Ranks
+pub mod Kahn

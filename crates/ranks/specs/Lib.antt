@@ -1,0 +1,2 @@
+pub mod Dependency
+pub mod RankCheck
