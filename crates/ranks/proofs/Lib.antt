@@ -1,1 +1,3 @@
 pub mod Edges
+pub mod Accepted
+pub mod Ranks
