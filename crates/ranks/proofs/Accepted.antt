@@ -37,6 +37,8 @@ use Rattle.compile.specs.declared.Produced.the-variants.{Nothing, Made, Refused
 use Rattle.compile.proofs.RootFormula.{Bounded, producer-bounded}
 use Rattle.ranks.specs.Dependency as dependency
 use Rattle.ranks.specs.Dependency.{dependencies}
+use Rattle.ranks.specs.Classed.{Classed}
+use Rattle.ranks.specs.Highest.{word-positive}
 use Rattle.ranks.specs.RankCheck.{bodyOrder, producedOrder, orderAt}
 use Rattle.ranks.proofs.Edges.{Group, of-and, of-or, Rule, IntoNode, dependencies-each, each-into, each-rule}
 
@@ -51,15 +53,6 @@ unfolding greatest
 each-greatest h m [] w = omega arith
 each-greatest h m (o ∷ os) w = omega (arith, each-greatest h m os (w .1))
 
-positive-word : (c : Class) → eqb (classWord c) 1 ≡ isPositive c
-positive-word frozen = refl
-positive-word positive = refl
-positive-word opaque = refl
-
--- the words hold the classes of the nodes
-pub record Classed (t : Counts) (nodes operands classes : List ℕ) : Type 0 where
-  pub word : (k : ℕ) → k < t .nodes → getD classes k 0 ≡ getD (classWords nodes operands (t .nodes)) k 0
-
 module _ (t : Counts) (nodes operands classes roots : List ℕ) (well : WellFormed t nodes operands roots) (tables : NodeTables t nodes operands) (classed : Classed t nodes operands classes) where
   abbrev pub f : ℕ → Formula
   f k = formula t nodes operands k
@@ -68,7 +61,7 @@ module _ (t : Counts) (nodes operands classes roots : List ℕ) (well : WellForm
   unfolding classWords
   positive-is k l =
       ap (λ w. eqb w 1) (classed .word k l ∙ List·getD-map classWord (nodeClasses nodes operands (t .nodes)) k frozen ∙ ap classWord (sym (class-at t nodes operands roots well k)))
-      ∙ positive-word (class (f k))
+      ∙ word-positive (class (f k))
 
   -- ---- highest ranks, group by group
 

@@ -33,9 +33,10 @@ use Rattle.compile.specs.declared.Produced.{Produced}
 use Rattle.compile.specs.declared.Produced.the-variants.{Nothing, Made, Refused}
 use Rattle.compile.proofs.RootFormula.{producer-bounded, root-formula}
 use Rattle.ranks.specs.Dependency as dependency
+use Rattle.ranks.specs.Classed.{Classed}
 use Rattle.ranks.specs.RankCheck.{rankCheck}
 use Rattle.ranks.proofs.Edges.{Rule}
-use Rattle.ranks.proofs.Accepted.{Classed, positive-is}
+use Rattle.ranks.proofs.Accepted.{positive-is}
 use Rattle.ranks.proofs.Ranks.{rule-ordered}
 
 -- class words as classes

@@ -43,9 +43,10 @@ use Rattle.compile.specs.declared.Produced.the-variants.{Nothing, Made, Refused
 use Rattle.compile.proofs.RootFormula.{producer-bounded}
 use Rattle.ranks.specs.Dependency as dependency
 use Rattle.ranks.specs.Dependency.{only, operandEdges, nodeEdges, edgesInto, edgesOf, dependencies}
-use Rattle.ranks.specs.RankCheck.{bodyOrder, producedOrder, orderAt, rankOrder, rankCheck}
+use Rattle.ranks.specs.Classed.{Classed}
+use Rattle.ranks.specs.RankCheck.{bodyOrder, producedOrder, orderAt, orderBy, rankOrder, rankCheck}
 use Rattle.ranks.proofs.Edges.{Group, of-and, of-or, Rule, IntoNode, dependencies-each, each-rule}
-use Rattle.ranks.proofs.Accepted.{Classed, positive-is, vertex, vertex-atom, order-accepts, high-below}
+use Rattle.ranks.proofs.Accepted.{positive-is, vertex, vertex-atom, order-accepts, high-below}
 
 graph-strict : {A : ℕ} (s a : ℕ) → a < A → cost A (edge s a) ≡ 1
 graph-strict {A} s a l = rw (lt-ltb a A l)
@@ -177,7 +178,7 @@ module _ (t : Counts) (nodes operands classes roots : List ℕ) (well : WellForm
     pub order : (i : ℕ) → i < t .roots → orderAt nodes operands classes roots (nodeHighests (λ a. getD rs a 0) nodes operands (t .nodes)) rs i ≡ admission.Admitted
 
   checked : (rs : List ℕ) → rankCheck t nodes operands classes roots rs ≡ admission.Admitted → Checked rs
-  unfolding rankCheck rankOrder
+  unfolding rankCheck rankOrder orderBy
   checked rs e = go (eqb (length rs) (t .atoms) && allBelow (t .atoms) rs) refl e
     where
       go : (c : Bool) → (eqb (length rs) (t .atoms) && allBelow (t .atoms) rs) ≡ c → cond c (rankOrder t nodes operands classes roots rs) (admission.Refused RankShape) ≡ admission.Admitted → Checked rs
@@ -190,7 +191,7 @@ module _ (t : Counts) (nodes operands classes roots : List ℕ) (well : WellForm
       go false i q = absurd (not-both _ q)
 
   checks : (rs : List ℕ) → Checked rs → rankCheck t nodes operands classes roots rs ≡ admission.Admitted
-  unfolding rankCheck rankOrder
+  unfolding rankCheck rankOrder orderBy
   checks rs c =
       rw (eq-eqb (length rs) (t .atoms) (c .long), each-all-below (t .atoms) rs (c .low))
       (all-admitted _ 0 (t .roots) (λ i a b. c .order i (omega arith)))

@@ -32,9 +32,11 @@ producedOrder classes high ranks (Refused r) = admission.Admitted
 unfoldable pub orderAt : List ℕ → List ℕ → List ℕ → List ℕ → List ℕ → List ℕ → ℕ → Admission
 orderAt nodes operands classes roots high ranks i = producedOrder classes high ranks (produced nodes operands classes (getD roots i 0))
 
+unfoldable pub orderBy : Counts → List ℕ → List ℕ → List ℕ → List ℕ → List ℕ → List ℕ → Admission
+orderBy t nodes operands classes roots high ranks = firstRefusal (orderAt nodes operands classes roots high ranks) 0 (t .roots)
+
 unfoldable pub rankOrder : Counts → List ℕ → List ℕ → List ℕ → List ℕ → List ℕ → Admission
-rankOrder t nodes operands classes roots ranks =
-    firstRefusal (orderAt nodes operands classes roots (nodeHighests (λ a. getD ranks a 0) nodes operands (t .nodes)) ranks) 0 (t .roots)
+rankOrder t nodes operands classes roots ranks = orderBy t nodes operands classes roots (nodeHighests (λ a. getD ranks a 0) nodes operands (t .nodes)) ranks
 
 unfoldable pub rankCheck : Counts → List ℕ → List ℕ → List ℕ → List ℕ → List ℕ → Admission
 rankCheck t nodes operands classes roots ranks =
