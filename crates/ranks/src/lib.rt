@@ -9,7 +9,7 @@ ghost use Rattle.theory.specs.NodeRank.{nodeHighests};
 ghost use Rattle.theory.specs.Limits.{Limited};
 ghost use Rattle.theory.specs.WellFormed.{NodeTables, RootTable};
 ghost use Rattle.ranks.specs.Highest.{highestBy};
-ghost use Rattle.ranks.specs.RankCheck.{bodyOrder, producedOrder, orderBy};
+ghost use Rattle.ranks.specs.RankCheck.{bodyOrder, producedOrder, orderBy, rankCheck};
 ghost use Rattle.ranks.specs.Classed.{Classed};
 ghost use Rattle.ranks.specs.MadeIn.{MadeIn};
 
@@ -132,4 +132,29 @@ fn rank_order(
         i += 1;
     }
     Admission::Admitted
+}
+
+// Refusals 13 and 14 of proposed ranks. The class words stand at the front of area; what is behind its first v words is used.
+pub fn rank_check(
+    counts: Counts,
+    nodes: &[u32],
+    operands: &[u32],
+    roots: &[u32],
+    ranks: &[u32],
+    area: &mut [u32],
+    v: usize,
+) -> Admission
+    requires { ⌜ (counts .nodes ≤ v) × (v + counts .nodes ≤ length (now area)) × NodeTables counts (now nodes) (now operands) × RootTable counts (now roots) × Classed counts (now nodes) (now operands) (take v (now area)) ⌝ }
+    ensures { λ r. ⌜ r ≡ rankCheck counts (now (nodes .entry)) (now (operands .entry)) (take v (now (area .entry))) (now (roots .entry)) (now (ranks .entry)) ⌝ }
+    ensures { λ r. ⌜ take v (now (area .exit)) ≡ take v (now (area .entry)) ⌝ }
+{
+    if ranks.len() != counts.atoms {
+        return Admission::Refused(Refusal::RankShape);
+    }
+    if theory::all_below(ranks, counts.atoms, 0, counts.atoms) {
+        fill_highest(counts, nodes, operands, ranks, area, v);
+        rank_order(counts, nodes, operands, roots, ranks, area, v)
+    } else {
+        Admission::Refused(Refusal::RankShape)
+    }
 }
