@@ -14,7 +14,8 @@ use Rattle.base.specs.Gather.{gather, gather-more}
 use Rattle.graph.specs.Edge.{Edge, edge}
 use Rattle.theory.specs.Node.{nodeAt, span}
 use Rattle.theory.specs.Admission.{spanStart, spanEnd}
-use Rattle.theory.specs.Spans.{length-span}
+use Rattle.theory.specs.Spans.{Indexed, length-span}
+use Rattle.theory.specs.Formed.{and-indexed, or-indexed}
 use Rattle.theory.specs.WellFormed.{NodeFormed, NodeTables, RootTable, WellFormed}
 use Rattle.theory.specs.declared.Counts.{Counts}
 use Rattle.theory.specs.declared.Node.{Node}
@@ -192,3 +193,18 @@ module _ (t : Counts) (nodes operands classes roots : List ℕ) where
     pub no-more : t .nodes ≤ c .node → t .roots ≤ c .root → before t nodes operands classes roots c ≡ dependencies t nodes operands classes roots
     unfolding dependencies
     no-more l h = let all : c .root ≡ t .roots = omega (arith, range .root-in) in before-root l ∙ rw all
+
+-- the span of a group lies in the table, and its operands are below the node
+pub grouped-indexed : (t : Counts) (nodes operands : List ℕ) → NodeTables t nodes operands → (k : ℕ) → k < t .nodes → (s n : ℕ) → Grouped (nodeAt nodes k) s n → Indexed operands k s n
+grouped-indexed t nodes operands tables k l s n g = go (nodeAt nodes k) refl g
+  where
+    go : (node : Node) → nodeAt nodes k ≡ node → Grouped node s n → Indexed operands k s n
+    go node e of-and = and-indexed t nodes operands tables k l k s n (omega arith) e
+    go node e of-or = or-indexed t nodes operands tables k l k s n (omega arith) e
+
+-- a class word and the test on it
+pub class-yes : (classes : List ℕ) (k w : ℕ) → w ≡ getD classes k 0 → w ≡ 1 → positive classes k ≡ true
+class-yes classes k w p q = eq-eqb (getD classes k 0) 1 (sym p ∙ q)
+
+pub class-no : (classes : List ℕ) (k w : ℕ) → w ≡ getD classes k 0 → (w ≡ 1 → ⊥) → positive classes k ≡ false
+class-no classes k w p q = ne-eqb (getD classes k 0) 1 (λ e. q (p ∙ e))

@@ -3,9 +3,9 @@ ghost use mathlib.Core.Path.{_≡_};
 ghost use Prim.Native.Nat.{ℕ, _+_, _*_, _<_, _≤_};
 ghost use lib.ListN.{length, getD, take, drop};
 ghost use Rattle.theory.specs.Node.{nodeAt};
-ghost use Rattle.theory.specs.Limits.{Limited};
-ghost use Rattle.theory.specs.WellFormed.{NodeTables, RootTable};
+ghost use Rattle.dependency.specs.Lent.{Lent};
 ghost use Rattle.dependency.specs.Cursor.{InRange, Stepped};
+ghost use Rattle.dependency.specs.CursorLaws.{Grouped};
 
 use compile::Produced;
 use theory::Counts;
@@ -23,4 +23,68 @@ pub enum Dependency {
     Next(usize, usize, Cursor),
     Skip(Cursor),
     End,
+}
+
+// At operand c.slot of node c.node, an And or an Or whose span begins at s and has n entries.
+fn operand_dependency(
+    counts: Counts,
+    nodes: &[u32],
+    operands: &[u32],
+    roots: &[u32],
+    classes: &[u32],
+    c: Cursor,
+    s: usize,
+    n: usize,
+) -> Dependency
+    requires { ⌜ (c .node < counts .nodes) × Lent counts (now nodes) (now operands) (now roots) (now classes) × InRange counts (now nodes) (now operands) (now classes) (now roots) c × Grouped (nodeAt (now nodes) (c .node)) s n ⌝ }
+    ensures { λ r. ⌜ Stepped counts (now (nodes .entry)) (now (operands .entry)) (now (classes .entry)) (now (roots .entry)) c r ⌝ }
+{
+    let past = Cursor {
+        node: c.node + 1,
+        slot: 0,
+        root: c.root,
+    };
+    if words::word(classes, c.node) != 1 {
+        return Dependency::Skip(past);
+    }
+    if c.slot >= n {
+        return Dependency::Skip(past);
+    }
+    let o = words::word(operands, s + c.slot);
+    let after = Cursor {
+        node: c.node,
+        slot: c.slot + 1,
+        root: c.root,
+    };
+    if words::word(classes, o) == 1 {
+        Dependency::Next(counts.atoms + o, counts.atoms + c.node, after)
+    } else {
+        Dependency::Skip(after)
+    }
+}
+
+fn node_dependency(
+    counts: Counts,
+    nodes: &[u32],
+    operands: &[u32],
+    roots: &[u32],
+    classes: &[u32],
+    c: Cursor,
+) -> Dependency
+    requires { ⌜ (c .node < counts .nodes) × Lent counts (now nodes) (now operands) (now roots) (now classes) × InRange counts (now nodes) (now operands) (now classes) (now roots) c ⌝ }
+    ensures { λ r. ⌜ Stepped counts (now (nodes .entry)) (now (operands .entry)) (now (classes .entry)) (now (roots .entry)) c r ⌝ }
+{
+    let past = Cursor {
+        node: c.node + 1,
+        slot: 0,
+        root: c.root,
+    };
+    match theory::view(nodes, c.node) {
+        Node::Atom(a) => Dependency::Next(a, counts.atoms + c.node, past),
+        Node::And(s, n) => operand_dependency(counts, nodes, operands, roots, classes, c, s, n),
+        Node::Or(s, n) => operand_dependency(counts, nodes, operands, roots, classes, c, s, n),
+        Node::False => Dependency::Skip(past),
+        Node::Implies(_, _) => Dependency::Skip(past),
+        Node::Unknown => Dependency::Skip(past),
+    }
 }
