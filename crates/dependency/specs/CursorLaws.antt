@@ -20,6 +20,7 @@ use Rattle.theory.specs.WellFormed.{NodeFormed, NodeTables, RootTable, WellForm
 use Rattle.theory.specs.declared.Counts.{Counts}
 use Rattle.theory.specs.declared.Node.{Node}
 use Rattle.theory.specs.declared.Node.the-variants as node
+use Rattle.theory.specs.declared.Refusal.{Refusal}
 use Rattle.compile.specs.Producer.{produced}
 use Rattle.compile.specs.declared.Producer.{Producer}
 use Rattle.compile.specs.declared.Produced.{Produced}
@@ -67,6 +68,11 @@ pub data Bare : Node → Type 0 where
   bare-false : Bare node.False
   bare-implies : {l r : ℕ} → Bare (node.Implies l r)
   bare-unknown : Bare node.Unknown
+
+-- no producer is made
+pub data NotMade : Produced → Type 0 where
+  not-nothing : NotMade Nothing
+  not-refused : {r : Refusal} → NotMade (Refused r)
 
 -- a node is an And or an Or with this span
 pub data Grouped : Node → ℕ → ℕ → Type 0 where
@@ -208,3 +214,26 @@ class-yes classes k w p q = eq-eqb (getD classes k 0) 1 (sym p ∙ q)
 
 pub class-no : (classes : List ℕ) (k w : ℕ) → w ≡ getD classes k 0 → (w ≡ 1 → ⊥) → positive classes k ≡ false
 class-no classes k w p q = ne-eqb (getD classes k 0) 1 (λ e. q (p ∙ e))
+
+-- ---- the root at hand
+
+module _ (t : Counts) (nodes operands classes roots : List ℕ) (i root : ℕ) (made : Produced) (p : root ≡ getD roots i 0) (q : made ≡ produced nodes operands classes root) where
+  root-edges : edgesOf (t .atoms) nodes operands classes roots i ≡ producedEdges (t .atoms) classes made
+  unfolding edgesOf
+  root-edges = rw (← p, ← q)
+
+  pub edges-nothing : NotMade made → edgesOf (t .atoms) nodes operands classes roots i ≡ []
+  unfolding producedEdges
+  edges-nothing w = root-edges ∙ go made w
+    where
+      go : (m : Produced) → NotMade m → producedEdges (t .atoms) classes m ≡ []
+      go m not-nothing = refl
+      go m not-refused = refl
+
+  pub edges-bare : (x : Producer) → made ≡ Made x → x .body ≡ 0 → edgesOf (t .atoms) nodes operands classes roots i ≡ []
+  unfolding producedEdges bodyEdges
+  edges-bare x e z = root-edges ∙ rw (e, z)
+
+  pub edges-body : (x : Producer) (b : ℕ) → made ≡ Made x → x .body ≡ suc b → edgesOf (t .atoms) nodes operands classes roots i ≡ only (positive classes b) (edge (t .atoms + b) (x .head))
+  unfolding producedEdges bodyEdges
+  edges-body x b e z = root-edges ∙ rw (e, z)

@@ -88,3 +88,59 @@ fn node_dependency(
         Node::Unknown => Dependency::Skip(past),
     }
 }
+
+// At root position c.root: from its producer's body, if that is Positive, to its head.
+fn root_dependency(
+    counts: Counts,
+    nodes: &[u32],
+    operands: &[u32],
+    roots: &[u32],
+    classes: &[u32],
+    c: Cursor,
+) -> Dependency
+    requires { ⌜ (counts .nodes ≤ c .node) × (c .root < counts .roots) × Lent counts (now nodes) (now operands) (now roots) (now classes) × InRange counts (now nodes) (now operands) (now classes) (now roots) c ⌝ }
+    ensures { λ r. ⌜ Stepped counts (now (nodes .entry)) (now (operands .entry)) (now (classes .entry)) (now (roots .entry)) c r ⌝ }
+{
+    let after = Cursor {
+        node: c.node,
+        slot: c.slot,
+        root: c.root + 1,
+    };
+    let root = words::word(roots, c.root);
+    match compile::produce(counts, nodes, operands, classes, root) {
+        Produced::Made(p) => {
+            if p.body == 0 {
+                return Dependency::Skip(after);
+            }
+            let b = p.body - 1;
+            if words::word(classes, b) == 1 {
+                Dependency::Next(counts.atoms + b, p.head, after)
+            } else {
+                Dependency::Skip(after)
+            }
+        }
+        Produced::Nothing => Dependency::Skip(after),
+        Produced::Refused(_) => Dependency::Skip(after),
+    }
+}
+
+// The dependency at the cursor, in order: nodes rising, then producers.
+pub fn next_dependency(
+    counts: Counts,
+    nodes: &[u32],
+    operands: &[u32],
+    roots: &[u32],
+    classes: &[u32],
+    c: Cursor,
+) -> Dependency
+    requires { ⌜ Lent counts (now nodes) (now operands) (now roots) (now classes) × InRange counts (now nodes) (now operands) (now classes) (now roots) c ⌝ }
+    ensures { λ r. ⌜ Stepped counts (now (nodes .entry)) (now (operands .entry)) (now (classes .entry)) (now (roots .entry)) c r ⌝ }
+{
+    if c.node < counts.nodes {
+        return node_dependency(counts, nodes, operands, roots, classes, c);
+    }
+    if c.root < counts.roots {
+        return root_dependency(counts, nodes, operands, roots, classes, c);
+    }
+    Dependency::End
+}
