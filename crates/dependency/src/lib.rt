@@ -6,6 +6,7 @@ ghost use Rattle.theory.specs.Node.{nodeAt};
 ghost use Rattle.dependency.specs.Lent.{Lent};
 ghost use Rattle.dependency.specs.Cursor.{InRange, Stepped};
 ghost use Rattle.dependency.specs.CursorLaws.{Grouped};
+ghost use Rattle.dependency.specs.Laying.{Ready, LaidBefore, LaidNext};
 
 use compile::Produced;
 use theory::Counts;
@@ -143,4 +144,48 @@ pub fn next_dependency(
         return root_dependency(counts, nodes, operands, roots, classes, c);
     }
     Dependency::End
+}
+
+// How many dependencies are laid, and where the next one is looked for; none is left once it is done.
+pub struct Laying {
+    pub laid: usize,
+    pub cursor: Cursor,
+    pub done: bool,
+}
+
+// Lays the dependency at the cursor, if there is one. The class words are the first v words of area; edges are laid behind them.
+fn lay_next(
+    counts: Counts,
+    nodes: &[u32],
+    operands: &[u32],
+    roots: &[u32],
+    area: &mut [u32],
+    v: usize,
+    l: Laying,
+) -> Laying
+    requires { ⌜ Ready counts (now nodes) (now operands) (now roots) v (now area) × LaidBefore counts (now nodes) (now operands) (now roots) v (now area) l ⌝ }
+    ensures { λ r. ⌜ LaidNext counts (now (nodes .entry)) (now (operands .entry)) (now (roots .entry)) v (now (area .entry)) (now (area .exit)) l r ⌝ }
+{
+    let m = counts.operands + counts.nodes + counts.roots;
+    let cursor = l.cursor;
+    match next_dependency(counts, nodes, operands, roots, &area[..v], cursor) {
+        Dependency::Next(source, target, next) => {
+            kahn::lay(&mut area[v..], v, m, l.laid, source, target);
+            Laying {
+                laid: l.laid + 1,
+                cursor: next,
+                done: false,
+            }
+        }
+        Dependency::Skip(next) => Laying {
+            laid: l.laid,
+            cursor: next,
+            done: false,
+        },
+        Dependency::End => Laying {
+            laid: l.laid,
+            cursor,
+            done: true,
+        },
+    }
 }

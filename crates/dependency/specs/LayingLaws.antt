@@ -1,0 +1,106 @@
+-- One step of laying dependencies.
+-- Assumes nothing.
+use Prim.Native.Nat.{ℕ, zero, suc, _+_, _*_, _-_, _<_, _≤_}
+use native.Mathlib.Omega.{arith}
+use mathlib.Core.Path.{_≡_, refl, sym, ap, _∙_}
+use mathlib.Core.Bool.{Bool, true, false, true≢false, false≢true}
+use mathlib.Core.List.{List, [], _∷_, _++_, append-nil}
+use lib.ListN.{length, getD, take, drop, length-append, length-drop}
+use lib.Seq.{length-take-le, take-at, drop-at, take-all, drop-length}
+use Rattle.graph.specs.Edge.{Edge, edge}
+use Rattle.theory.specs.declared.Counts.{Counts}
+use Rattle.kahn.specs.Area.{Sized}
+use Rattle.kahn.specs.Laid.{laying, Laid}
+use Rattle.kahn.proofs.Laying.{degree-most, laid-more}
+use Rattle.ranks.specs.Dependency.{dependencies}
+use Rattle.ranks.specs.Highest.{part-rest}
+use Rattle.dependency.specs.Cursor.{before, left, InRange, Moved, Stepped}
+use Rattle.dependency.specs.Lent.{Lent}
+use Rattle.dependency.specs.Laying.{most, Ready, LaidBefore, LaidNext}
+use Rattle.dependency.specs.declared.Cursor.{Cursor}
+use Rattle.dependency.specs.declared.Laying.{Laying}
+
+-- an area whose part behind the first v words was lent and came back as ys
+module _ (v : ℕ) (area ys : List ℕ) (fits : v ≤ length area) where
+  put : List ℕ
+  put = take v area ++ (ys ++ drop (length area - v) (drop v area))
+
+  nothing-behind : drop (length area - v) (drop v area) ≡ []
+  nothing-behind = let e : length area - v ≡ length (drop v area) = omega (arith, length-drop v area) in rw e (drop-length (drop v area))
+
+  pub tail-front : take v (take v area ++ (ys ++ drop (length area - v) (drop v area))) ≡ take v area
+  tail-front = take-at (take v area) _ v (length-take-le v area fits)
+
+  pub tail-back : drop v (take v area ++ (ys ++ drop (length area - v) (drop v area))) ≡ ys
+  tail-back = drop-at (take v area) _ v (length-take-le v area fits) ∙ rw nothing-behind (append-nil ys)
+
+  pub tail-long : length ys ≡ length (drop v area) → length (take v area ++ (ys ++ drop (length area - v) (drop v area))) ≡ length area
+  tail-long e =
+      length-append (take v area) _
+      ∙ rw (length-append, nothing-behind, length-take-le v area fits) (omega (arith, length-drop v area))
+
+module _ (t : Counts) (nodes operands roots : List ℕ) (v : ℕ) (area : List ℕ) (ready : Ready t nodes operands roots v area) where
+  pub v-fits : v ≤ length area
+  v-fits = omega (arith, ready .long)
+
+  pub lent : Lent t nodes operands roots (take v area)
+  lent = record { limited = ready .limited; tables = ready .tables; listed = ready .listed; classes-long = omega (arith, length-take-le v area v-fits, ready .vertices) }
+
+  pub sized : Sized v (most t) (take (length area - v) (drop v area))
+  sized =
+      rw (part-rest v area) (record {
+        vertices = omega (arith, ready .vertices, ready .limited);
+        edges = omega (arith, ready .limited);
+        long = omega (arith, ready .long, length-drop v area);
+      })
+
+  module _ (l : Laying) (b : LaidBefore t nodes operands roots v area l) where
+    -- an edge at the cursor, laid
+    module _ (s x : ℕ) (d : Cursor) (step : Moved t nodes operands (take v area) roots (l .cursor) d (edge s x ∷ []) × (s < t .atoms + t .nodes) × (x < t .atoms + t .nodes)) where
+      pub has-room : l .laid < most t
+      has-room = omega (arith, b .room, step .0 .less)
+
+      pub few-degrees : getD (take (length area - v) (drop v area)) (v + x) 0 ≤ l .laid
+      few-degrees =
+          rw (part-rest v area)
+          (omega (arith, b .number, degree-most v (most t) (before t nodes operands (take v area) roots (l .cursor)) (drop v area) (b .laid) x (omega (arith, step .2, ready .vertices))))
+
+      pub laid-edge : (after ys : List ℕ) → length after ≡ length area → take v after ≡ take v area → drop v after ≡ ys
+          → ys ≡ laying v (most t) (l .laid) s x (take (length area - v) (drop v area))
+          → LaidNext t nodes operands roots v area after l (record { laid = l .laid + 1; cursor = d; done = false })
+      laid-edge after ys long front back e =
+          record {
+            long = long;
+            classes = front;
+            more = λ q. (
+              record {
+                range = rw front (step .0 .range);
+                number = rw (front, step .0 .grown, length-append) (omega (arith, b .number));
+                room = rw front (omega (arith, b .room, step .0 .less));
+                laid =
+                    rw (front, step .0 .grown, back ∙ e, part-rest v area, b .number)
+                    (laid-more v (most t) s x (before t nodes operands (take v area) roots (l .cursor)) (drop v area) (omega (arith, ready .long, length-drop v area))
+                    (omega (arith, step .1, ready .vertices)) (omega (arith, step .2, ready .vertices)) (omega (arith, b .number, has-room)) (b .laid));
+              },
+              step .0 .less,
+            );
+            all = λ q. absurd (false≢true q);
+          }
+
+    -- a place without one
+    pub laid-skip : (d : Cursor) → Moved t nodes operands (take v area) roots (l .cursor) d [] → LaidNext t nodes operands roots v area area l (record { laid = l .laid; cursor = d; done = false })
+    laid-skip d step =
+        let same = step .grown ∙ append-nil (before t nodes operands (take v area) roots (l .cursor)) in
+        record {
+          long = refl;
+          classes = refl;
+          more = λ q. (
+            record { range = step .range; number = rw same (b .number); room = omega (arith, b .room, step .less); laid = rw same (b .laid) },
+            step .less,
+          );
+          all = λ q. absurd (false≢true q);
+        }
+
+    pub laid-all : before t nodes operands (take v area) roots (l .cursor) ≡ dependencies t nodes operands (take v area) roots
+        → LaidNext t nodes operands roots v area area l (record { laid = l .laid; cursor = l .cursor; done = true })
+    laid-all e = record { long = refl; classes = refl; more = λ q. absurd (true≢false q); all = λ q. rw e at (b .laid) }
