@@ -41,3 +41,13 @@ pub record LaidNext (t : Counts) (nodes operands roots : List ℕ) (v : ℕ) (ar
   pub classes : take v after ≡ take v area
   pub more : r .done ≡ false → LaidBefore t nodes operands roots v after r × (left t nodes operands (take v area) roots (r .cursor) < left t nodes operands (take v area) roots (l .cursor))
   pub all : r .done ≡ true → Laid v (most t) (dependencies t nodes operands (take v area) roots) (drop v after)
+
+-- no edge is laid behind the class words
+pub record Empty (v : ℕ) (area : List ℕ) : Type 0 where
+  pub zero-words : (k : ℕ) → k < 3 * v → getD (drop v area) k 0 ≡ 0
+
+-- all dependencies are laid, and the class words stay
+pub record AllLaid (t : Counts) (nodes operands roots : List ℕ) (v : ℕ) (area after : List ℕ) : Type 0 where
+  pub long : length after ≡ length area
+  pub classes : take v after ≡ take v area
+  pub laid : Laid v (most t) (dependencies t nodes operands (take v area) roots) (drop v after)

@@ -3,12 +3,17 @@ ghost use mathlib.Core.Path.{_≡_};
 ghost use Prim.Native.Nat.{ℕ, _+_, _*_, _<_, _≤_};
 ghost use lib.ListN.{length, getD, take, drop};
 ghost use Rattle.theory.specs.Node.{nodeAt};
+ghost use Rattle.graph.specs.Derive.{derive};
+ghost use Rattle.kahn.specs.Area.{part};
+ghost use Rattle.kahn.specs.Answer.{answered};
+ghost use Rattle.ranks.specs.Dependency.{dependencies};
 ghost use Rattle.dependency.specs.Lent.{Lent};
 ghost use Rattle.dependency.specs.Cursor.{InRange, Stepped};
 ghost use Rattle.dependency.specs.CursorLaws.{Grouped};
-ghost use Rattle.dependency.specs.Laying.{Ready, LaidBefore, LaidNext};
+ghost use Rattle.dependency.specs.Laying.{Ready, LaidBefore, LaidNext, Empty, AllLaid};
 
 use compile::Produced;
+use kahn::Derivation;
 use theory::Counts;
 use theory::Node;
 
@@ -188,4 +193,48 @@ fn lay_next(
             done: true,
         },
     }
+}
+
+// Lays all dependencies, in order.
+fn lay_all(
+    counts: Counts,
+    nodes: &[u32],
+    operands: &[u32],
+    roots: &[u32],
+    area: &mut [u32],
+    v: usize,
+)
+    requires { ⌜ Ready counts (now nodes) (now operands) (now roots) v (now area) × Empty v (now area) ⌝ }
+    ensures { λ _. ⌜ AllLaid counts (now (nodes .entry)) (now (operands .entry)) (now (roots .entry)) v (now (area .entry)) (now (area .exit)) ⌝ }
+{
+    let mut l = Laying {
+        laid: 0,
+        cursor: Cursor {
+            node: 0,
+            slot: 0,
+            root: 0,
+        },
+        done: false,
+    };
+    while !l.done {
+        l = lay_next(counts, nodes, operands, roots, area, v, l);
+    }
+}
+
+// Derives the atoms' ranks, or finds the lowest atom on or behind a positive cycle. The ranks stand behind the first 3 v words of area.
+pub fn derive_ranks(
+    counts: Counts,
+    nodes: &[u32],
+    operands: &[u32],
+    roots: &[u32],
+    area: &mut [u32],
+    v: usize,
+) -> Derivation
+    requires { ⌜ Ready counts (now nodes) (now operands) (now roots) v (now area) × Empty v (now area) ⌝ }
+    ensures { λ r. ⌜ answered r (part (3 * v) (counts .atoms) (now (area .exit))) ≡ derive (counts .atoms) v (dependencies counts (now (nodes .entry)) (now (operands .entry)) (take v (now (area .entry))) (now (roots .entry))) ⌝ }
+    ensures { λ r. ⌜ take v (now (area .exit)) ≡ take v (now (area .entry)) ⌝ }
+{
+    lay_all(counts, nodes, operands, roots, area, v);
+    let m = counts.operands + counts.nodes + counts.roots;
+    kahn::derive(&mut area[v..], counts.atoms, v, m)
 }
