@@ -100,6 +100,40 @@ count-most p i (suc n) = go (p i) refl (count-most p (i + 1) n)
     go true e ih = rw (places-yes p i n e) (omega arith)
     go false e ih = rw (places-no p i n e) (omega arith)
 
+pub count-yes : (p : ℕ → Bool) (i n : ℕ) → p i ≡ true → count p i (suc n) ≡ suc (count p (i + 1) n)
+unfolding count
+count-yes p i n e = ap length (places-yes p i n e)
+
+pub count-no : (p : ℕ → Bool) (i n : ℕ) → p i ≡ false → count p i (suc n) ≡ count p (i + 1) n
+unfolding count
+count-no p i n e = ap length (places-no p i n e)
+
+-- where p holds so does q
+pub count-le : (p q : ℕ → Bool) (i n : ℕ) → ((k : ℕ) → i ≤ k → k < i + n → p k ≡ true → q k ≡ true) → count p i n ≤ count q i n
+unfolding count places
+count-le p q i zero h = omega arith
+count-le p q i (suc n) h = go (p i) refl (q i) refl (count-le p q (i + 1) n (λ k a b. h k (omega arith) (omega arith)))
+  where
+    go : (s : Bool) → p i ≡ s → (t : Bool) → q i ≡ t → count p (i + 1) n ≤ count q (i + 1) n → count p i (suc n) ≤ count q i (suc n)
+    go true e true f ih = omega (arith, count-yes p i n e, count-yes q i n f)
+    go true e false f ih = absurd (false≢true (sym f ∙ h i (omega arith) (omega arith) e))
+    go false e true f ih = omega (arith, count-no p i n e, count-yes q i n f)
+    go false e false f ih = omega (arith, count-no p i n e, count-no q i n f)
+
+-- and q holds at w besides
+pub count-less : (p q : ℕ → Bool) (i n w : ℕ) → i ≤ w → w < i + n → p w ≡ false → q w ≡ true
+    → ((k : ℕ) → i ≤ k → k < i + n → p k ≡ true → q k ≡ true) → count p i n < count q i n
+count-less p q i n w a b e f h =
+    let range : n ≡ (w - i) + suc (n - (w - i) - 1) = omega arith in
+    let at : i + (w - i) ≡ w = omega arith in
+    let m : ℕ = n - (w - i) - 1 in
+    rw (range, count-split p i (w - i) (suc m), count-split q i (w - i) (suc m), at, count-no p w m e, count-yes q w m f)
+    (omega (
+      arith,
+      count-le p q i (w - i) (λ k c d. h k c (omega arith)),
+      count-le p q (w + 1) m (λ k c d. h k (omega arith) (omega arith)),
+    ))
+
 -- ---- the lowest
 
 pub lowest-here : (p : ℕ → Bool) (i n : ℕ) → p i ≡ true → lowest p i (suc n) ≡ i

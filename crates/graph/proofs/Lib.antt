@@ -1,0 +1,4 @@
+pub mod Rounds
+pub mod Depths
+pub mod Paths
+pub mod Ranks

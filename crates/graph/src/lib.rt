@@ -1,0 +1,1 @@
+// No code: graphs, Kahn's removal, and least ranks. Crate `kahn` derives the ranks.
