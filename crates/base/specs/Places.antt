@@ -146,6 +146,10 @@ lowest-past p i n e =
     let a : i + suc n ≡ i + 1 + n = omega arith in
     rw (places-no p i n e, a)
 
+pub lowest-agree : (p q : ℕ → Bool) (i n : ℕ) → ((k : ℕ) → i ≤ k → k < i + n → p k ≡ q k) → lowest p i n ≡ lowest q i n
+unfolding lowest
+lowest-agree p q i n h = rw (places-agree p q i n h)
+
 -- the lowest is that place, and no other number is
 pub lowest-only : (p : ℕ → Bool) (i n r : ℕ) → Lowest p i n r → r ≡ lowest p i n
 unfolding lowest places
