@@ -6,8 +6,8 @@ use native.Mathlib.Numerals.{add-one}
 use native.Mathlib.Omega.{arith}
 use mathlib.Core.Path.{_≡_, refl, ap, ap₂, sym, _∙_}
 use mathlib.Core.Logic.{_⊎_, ⊎-elim}
-use mathlib.Core.Bool.{Bool, true, false, false≢true}
-use mathlib.Core.List.{List, [], _∷_, _++_}
+use mathlib.Core.Bool.{Bool, true, false, cond, false≢true}
+use mathlib.Core.List.{List, [], _∷_, _++_, append-nil}
 use lib.ListN.{length, getD, length-append}
 use Rattle.base.specs.Tests.{equal-or}
 
@@ -76,6 +76,15 @@ unfolding places
 places-none p i zero h = refl
 places-none p i (suc n) h =
     places-no p i n (h i (omega arith) (omega arith)) ∙ places-none p (i + 1) n (λ k a b. h k (omega arith) (omega arith))
+
+-- one place more at the end
+pub places-end : (p : ℕ → Bool) (n : ℕ) → places p 0 (n + 1) ≡ cond (p n) (places p 0 n ++ (n ∷ [])) (places p 0 n)
+unfolding places
+places-end p n = let z : 0 + n ≡ n = omega arith in (rw z at (places-split p 0 n 1)) ∙ go (p n) refl
+  where
+    go : (t : Bool) → p n ≡ t → places p 0 n ++ places p n 1 ≡ cond t (places p 0 n ++ (n ∷ [])) (places p 0 n)
+    go true e = rw (places-yes p n 0 e)
+    go false e = rw (places-no p n 0 e, append-nil)
 
 -- ---- how many
 

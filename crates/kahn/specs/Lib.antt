@@ -1,0 +1,5 @@
+pub mod Area
+pub mod Laid
+pub mod Seeding
+pub mod Draining
+pub mod Answer
