@@ -1,2 +1,4 @@
 pub mod Sections
 pub mod Steps
+pub mod Laying
+pub mod Walk

@@ -172,8 +172,11 @@ module _ (A n q s t : ℕ) (area : List ℕ) (long : 4 * n ≤ length area) (roo
   pub relaxed : (degree before above paid rank r : ℕ) (after : List ℕ) → degree ≡ getD area (n + t) 0 → before ≡ getD area (2 * n + t) 0
       → above ≡ getD area (2 * n + s) 0 → paid ≡ one (ltb t A) → rank ≡ max before (above + paid)
       → (after ≡ pushing n q t (set (set area (n + t) (degree - 1)) (2 * n + t) rank)) × (r ≡ pushed n q t (set (set area (n + t) (degree - 1)) (2 * n + t) rank))
-      → (stateIn n r after ≡ relax A (edge s t) (stateIn n q area)) × LinksKept n area after
-  relaxed degree before above paid rank r after a b c d e p = (relax-is after r (p .0 ∙ ap (pushing n q t) same) (p .1 ∙ ap (pushed n q t) same), relax-kept after (p .0 ∙ ap (pushing n q t) same))
+      → (stateIn n r after ≡ relax A (edge s t) (stateIn n q area)) × (LinksKept n area after × (r ≤ q + 1))
+  relaxed degree before above paid rank r after a b c d e p =
+      let x : after ≡ pushing n q t stored = p .0 ∙ ap (pushing n q t) same in
+      let y : r ≡ pushed n q t stored = p .1 ∙ ap (pushed n q t) same in
+      (relax-is after r x y, (relax-kept after x, omega (arith, pushed-most n q t stored)))
     where
       same : set (set area (n + t) (degree - 1)) (2 * n + t) rank ≡ stored
       same = rw (e, a, b, c, d)

@@ -77,7 +77,7 @@ fn relax(area: &mut [u32], atoms: usize, n: usize, q: usize, source: usize, targ
     requires { ⌜ (n ≤ 327680) × (4 * n ≤ length (now area)) × (q < n) × (source < n) × (target < n) ⌝ }
     requires { ⌜ (0 < getD (now area) (n + target) 0) × (getD (now area) (2 * n + source) 0 ≤ n) ⌝ }
     ensures { λ r. ⌜ stateIn n r (now (area .exit)) ≡ removal.relax atoms (edge source target) (stateIn n q (now (area .entry))) ⌝ }
-    ensures { λ r. ⌜ LinksKept n (now (area .entry)) (now (area .exit)) ⌝ }
+    ensures { λ r. ⌜ LinksKept n (now (area .entry)) (now (area .exit)) × (r ≤ q + 1) ⌝ }
 {
     let degree = words::word(area, n + target);
     let before = words::word(area, 2 * n + target);
@@ -86,4 +86,69 @@ fn relax(area: &mut [u32], atoms: usize, n: usize, q: usize, source: usize, targ
     area[n + target] = (degree - 1) as u32;
     area[2 * n + target] = rank as u32;
     push(area, n, q, target)
+}
+
+// Goes over the edges of vertex c of the queue.
+fn spread(area: &mut [u32], atoms: usize, n: usize, m: usize, c: usize, queued: usize) -> usize
+    requires { ⌜ Sized n m (now area) × (c < queued) × ((es : List Edge) × Draining atoms es n m c queued (now area)) ⌝ }
+    ensures { λ r. ⌜ ((es : List Edge) → Draining atoms es n m c queued (now (area .entry)) → Draining atoms es n m (c + 1) r (now (area .exit))) ⌝ }
+    ensures { λ r. ⌜ LinksKept n (now (area .entry)) (now (area .exit)) ⌝ }
+{
+    let source = words::word(area, 3 * n + c);
+    let mut q = queued;
+    let mut link = words::word(area, source);
+    while link != 0 {
+        let i = link - 1;
+        let target = words::word(area, 4 * n + i);
+        let next = words::word(area, 4 * n + m + i);
+        q = relax(area, atoms, n, q, source, target);
+        link = next;
+    }
+    q
+}
+
+// Takes out the vertices of the queue and those that they free.
+fn drain(area: &mut [u32], atoms: usize, n: usize, m: usize, queued: usize) -> usize
+    requires { ⌜ Sized n m (now area) × ((es : List Edge) × Draining atoms es n m 0 queued (now area)) ⌝ }
+    ensures { λ r. ⌜ ((es : List Edge) → Draining atoms es n m 0 queued (now (area .entry)) → Draining atoms es n m r r (now (area .exit))) ⌝ }
+    ensures { λ r. ⌜ LinksKept n (now (area .entry)) (now (area .exit)) ⌝ }
+{
+    let mut q = queued;
+    let mut c = 0;
+    while c < q {
+        q = spread(area, atoms, n, m, c, q);
+        c += 1;
+    }
+    q
+}
+
+// The lowest atom whose degree is not 0; `atoms` if there is none.
+fn lowest_left(area: &[u32], atoms: usize, n: usize) -> usize
+    requires { ⌜ (atoms ≤ n) × (2 * n ≤ length (now area)) × (n ≤ 327680) ⌝ }
+    ensures { λ r. ⌜ r ≡ lowest (λ v. not (eqb (getD (now (area .entry)) (n + v) 0) 0)) 0 atoms ⌝ }
+{
+    let mut a = 0;
+    while a < atoms {
+        if words::word(area, n + a) != 0 {
+            return a;
+        }
+        a += 1;
+    }
+    atoms
+}
+
+// Derives the ranks of the first `atoms` vertices from the edges laid.
+pub fn derive(area: &mut [u32], atoms: usize, n: usize, m: usize) -> Derivation
+    requires { ⌜ Sized n m (now area) × (atoms ≤ n) × ((es : List Edge) × Laid n m es (now area)) ⌝ }
+    ensures { λ r. ⌜ ((es : List Edge) → Laid n m es (now (area .entry)) → answered r (part (2 * n) atoms (now (area .exit))) ≡ graph.derive atoms n es) ⌝ }
+    ensures { λ r. ⌜ LinksKept n (now (area .entry)) (now (area .exit)) ⌝ }
+{
+    let seeded = seed(area, n);
+    let _ = drain(area, atoms, n, m, seeded);
+    let a = lowest_left(area, atoms, n);
+    if a < atoms {
+        Derivation::Cycle(a)
+    } else {
+        Derivation::Ranks
+    }
 }

@@ -1,0 +1,109 @@
+use Rattle.kahn.proofs.spread.Statement.{statement}
+use Rattle.kahn.proofs.spread.Tie as tie
+use Rattle.kahn.proofs.spread.Reads as reads
+use Rattle.kahn.proofs.spread.Lts as lts
+use Rattle.kahn.proofs.relax.Reads as relax-reads
+use Rattle.words.proofs.word.Reads as word-reads
+
+abbrev Inv-loop : tie.InvT-loop
+Inv-loop area₀ atoms n m c queued source q₀ link₀ area q link = ?
+
+abbrev μ-loop : tie.MeasureT-loop
+μ-loop area₀ atoms n m c queued source q₀ link₀ area q link = ?
+
+-- src/lib.rt:97:36
+mul-word : tie.Need-mul-word Inv-loop μ-loop
+mul-word c = ?
+
+-- src/lib.rt:97:36
+add-word : tie.Need-add-word Inv-loop μ-loop
+add-word c = ?
+
+-- src/lib.rt:97:9
+word-requires : tie.Need-word-requires Inv-loop μ-loop
+word-requires c κs = ?
+
+-- src/lib.rt:99:9
+word-requires-2 : tie.Need-word-requires-2 Inv-loop μ-loop
+word-requires-2 c κs = ?
+
+-- src/lib.rt:100:5
+loop-holds : tie.Need-loop-holds Inv-loop μ-loop
+loop-holds c = ?
+
+-- src/lib.rt:101:17
+sub-i : tie.Need-sub-i Inv-loop μ-loop
+sub-i c = ?
+
+-- src/lib.rt:102:40
+mul-word-2 : tie.Need-mul-word-2 Inv-loop μ-loop
+mul-word-2 c = ?
+
+-- src/lib.rt:102:40
+add-word-2 : tie.Need-add-word-2 Inv-loop μ-loop
+add-word-2 c = ?
+
+-- src/lib.rt:102:13
+word-requires-3 : tie.Need-word-requires-3 Inv-loop μ-loop
+word-requires-3 c κs = ?
+
+-- src/lib.rt:103:38
+mul-word-3 : tie.Need-mul-word-3 Inv-loop μ-loop
+mul-word-3 c = ?
+
+-- src/lib.rt:103:38
+add-word-3 : tie.Need-add-word-3 Inv-loop μ-loop
+add-word-3 c = ?
+
+-- src/lib.rt:103:38
+add-word-4 : tie.Need-add-word-4 Inv-loop μ-loop
+add-word-4 c = ?
+
+-- src/lib.rt:103:13
+word-requires-4 : tie.Need-word-requires-4 Inv-loop μ-loop
+word-requires-4 c κs = ?
+
+-- src/lib.rt:104:9
+relax-requires : tie.Need-relax-requires Inv-loop μ-loop
+relax-requires c κs = ?
+
+-- src/lib.rt:100:5
+loop-less : tie.Need-loop-less Inv-loop μ-loop
+loop-less c = ?
+
+-- src/lib.rt:100:5
+loop-again : tie.Need-loop-again Inv-loop μ-loop
+loop-again c = ?
+
+-- src/lib.rt:92:1
+same-length : tie.Need-same-length Inv-loop μ-loop
+same-length c = ?
+
+-- src/lib.rt:92:1
+returns : tie.Need-returns Inv-loop μ-loop
+returns c = ?
+
+pub spread-spec : {M : Type 1} → statement M
+spread-spec =
+    tie.close
+    (tie.spec
+    Inv-loop
+    μ-loop
+    mul-word
+    add-word
+    word-requires
+    word-requires-2
+    loop-holds
+    sub-i
+    mul-word-2
+    add-word-2
+    word-requires-3
+    mul-word-3
+    add-word-3
+    add-word-4
+    word-requires-4
+    relax-requires
+    loop-less
+    loop-again
+    same-length
+    returns)
