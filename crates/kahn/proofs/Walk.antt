@@ -1,6 +1,6 @@
 -- The removal in the work area: from laid edges to its start, along the links of a vertex, to its end.
 -- Assumes nothing.
-use Prim.Native.Nat.{ℕ, zero, suc, _+_, _*_, _≤_, _<_}
+use Prim.Native.Nat.{ℕ, zero, suc, _+_, _*_, _-_, _≤_, _<_}
 use native.Mathlib.Numerals.{add-one}
 use native.Mathlib.Omega.{arith}
 use mathlib.Core.Path.{_≡_, refl, ap, sym, _∙_}
@@ -13,7 +13,7 @@ use lib.Seq.{take-take}
 use borrow.Author.Tests.{eq-eqb, ne-eqb, ltb-true, ltb-false}
 use Rattle.base.specs.Tests.{equal-or, below-or, and-true}
 use Rattle.base.specs.Each.{Each}
-use Rattle.base.specs.Places.{places, places-end, lowest, lowest-agree}
+use Rattle.base.specs.Places.{places, places-end, lowest, lowest-is, lowest-here, lowest-past, lowest-agree}
 use Rattle.graph.specs.Edge.{Edge, edge, one}
 use Rattle.graph.specs.Depth.{depth}
 use Rattle.graph.specs.Derive.{Derived, ranks, cycle, derive}
@@ -34,6 +34,9 @@ kept-none n area = record { long = refl; first = λ k l. refl; edges = λ k l. r
 pub kept-more : (n : ℕ) (before area after : List ℕ) → LinksKept n before area → LinksKept n area after → LinksKept n before after
 kept-more n before area after p q =
     record { long = q .long ∙ p .long; first = λ k l. q .first k l ∙ p .first k l; edges = λ k l. q .edges k l ∙ p .edges k l }
+
+pub sized-kept : (n m : ℕ) (before area : List ℕ) → Sized n m before → LinksKept n before area → Sized n m area
+sized-kept n m before area sized kept = record { vertices = sized .vertices; edges = sized .edges; long = omega (arith, sized .long, kept .long) }
 
 module _ (n m : ℕ) (area after : List ℕ) (kept : LinksKept n area after) where
   chain-kept : (s p : ℕ) (zs : List Edge) → Chain n m area s p zs → Chain n m after s p zs
@@ -108,13 +111,16 @@ module _ (n q : ℕ) (area : List ℕ) where
   unfolding stateIn
   state-ranks = refl
 
+pub seeding-kept : (n v q : ℕ) (before area : List ℕ) → Seeding n v q before area → LinksKept n before area
+seeding-kept n v q before area s = record { long = s .long; first = λ k l. s .low k (omega arith); edges = s .high }
+
 -- laid edges and a seeded queue start the removal
 pub draining-starts : (A : ℕ) (es : List Edge) (n m q : ℕ) (before area : List ℕ) → Sized n m before → Laid n m es before → Seeding n n q before area
     → Draining A es n m 0 q area
 draining-starts A es n m q before area sized laid s =
     record {
       fits = s .few;
-      chains = chains-kept n m before area (record { long = s .long; first = λ k l. s .low k (omega arith); edges = s .high }) es (laid .chains);
+      chains = chains-kept n m before area (seeding-kept n n q before area s) es (laid .chains);
       removing =
           removing-starts A es n (stateIn n q area)
           (degrees-long)
@@ -236,6 +242,9 @@ module _ (A : ℕ) (es : List Edge) (n m c s i q : ℕ) (area : List ℕ) (sized
       go : (zs : List Edge) → Chain n m area s (suc i) zs → Removing A es n c zs (stateIn n q area) → Next A es n m c s i q area
       go zs (link j t next {zs = ys} a b d x y chain) inv = next-edge t next ys a b d x y chain (w .vertex) (w .fits) inv (w .taken) (w .chains)
 
+pub next-left : (A : ℕ) (es : List Edge) (n m c s i q : ℕ) (area : List ℕ) → Next A es n m c s i q area → (t : ℕ) → t ≡ getD area (4 * n + i) 0 → 0 < getD area (n + t) 0
+next-left A es n m c s i q area h t e = rw e (h .left)
+
 pub walk-end : (A : ℕ) (es : List Edge) (n m c s q : ℕ) (area : List ℕ) → Walking A es n m c s 0 q area → Draining A es n m c q area
 walk-end A es n m c s q area w = record { fits = w .fits; chains = w .chains; removing = go 0 refl (w .rest) (w .chain) (w .removing) }
   where
@@ -243,26 +252,108 @@ walk-end A es n m c s q area w = record { fits = w .fits; chains = w .chains; re
     go p e zs stop inv = inv
     go p e zs (link j t next a b d x y chain) inv = absurd (omega arith)
 
+-- what the walk along the links of s keeps, from the area before it
+pub record Spreading (A n m c queued s p q : ℕ) (before area : List ℕ) : Type 0 where
+  pub kept : LinksKept n before area
+  pub walks : (es : List Edge) → Draining A es n m c queued before → Walking A es n m (c + 1) s p q area
+
+module _ (A n m c queued s : ℕ) (before : List ℕ) (sized : Sized n m before) where
+  pub spreading-starts : (p : ℕ) → c < queued → s ≡ getD before (3 * n + c) 0 → p ≡ getD before s 0 → Spreading A n m c queued s p queued before before
+  spreading-starts p l e f = record { kept = kept-none n before; walks = λ es d. walk-start A es n m c queued s p before sized d l e f }
+
+  module _ (p q : ℕ) (area : List ℕ) (w : Spreading A n m c queued s p q before area) where
+    pub spreading-next : (es : List Edge) → Draining A es n m c queued before → (p ≡ 0 → ⊥) → Next A es n m (c + 1) s (p - 1) q area
+    spreading-next es d more =
+        let one-more : p ≡ suc (p - 1) = omega (arith, zero-or p more) in
+        walk-step A es n m (c + 1) s (p - 1) q area
+        (sized-kept n m before area sized (w .kept))
+        (rw one-more at (w .walks es d))
+      where
+        zero-or : (k : ℕ) → (k ≡ 0 → ⊥) → 0 < k
+        zero-or k h = ⊎-elim (λ l. absurd (h (omega arith))) (λ l. l) (below-or k 1)
+
+    pub spreading-more : (t next r : ℕ) (after : List ℕ) → (p ≡ 0 → ⊥) → t ≡ getD area (4 * n + (p - 1)) 0 → next ≡ getD area (4 * n + m + (p - 1)) 0
+        → (stateIn n r after ≡ relax A (edge s t) (stateIn n q area)) × (LinksKept n area after × (r ≤ q + 1)) → Spreading A n m c queued s next r before after
+    spreading-more t next r after more e f is =
+        record {
+          kept = kept-more n before area after (w .kept) (is .1 .0);
+          walks = λ es d.
+              rw f
+              (spreading-next es d more .after r after (is .1 .1) (is .0 ∙ ap (λ v. relax A (edge s v) (stateIn n q area)) e) (is .1 .0));
+        }
+
+    pub spreading-ends : p ≡ 0 → ((es : List Edge) → Draining A es n m c queued before → Draining A es n m (c + 1) q area) × LinksKept n before area
+    spreading-ends e = (λ es d. walk-end A es n m (c + 1) s q area (rw e at (w .walks es d)), w .kept)
+
 -- ---- the end
 
-pub drained : (A : ℕ) (es : List Edge) (n m c q : ℕ) (area : List ℕ) → Sized n m area → Draining A es n m c q area → q ≤ c → c ≡ q
-drained A es n m c q area sized d l = omega (arith, d .removing .reached, queue-long n q area (omega (arith, sized .long)) (d .fits))
+-- what the loop over the queue keeps, from the area before it
+pub record Emptying (A n m queued c q : ℕ) (before area : List ℕ) : Type 0 where
+  pub kept : LinksKept n before area
+  pub drains : (es : List Edge) → Draining A es n m 0 queued before → Draining A es n m c q area
 
-module _ (A : ℕ) (es : List Edge) (n m q a : ℕ) (area : List ℕ) (sized : Sized n m area) (few : A ≤ n) (within : Each (λ e. e .source < n) es)
-    (d : Draining A es n m q q area) (low : a ≡ lowest (λ v. not (eqb (getD area (n + v) 0) 0)) 0 A) where
-  long : 4 * n ≤ length area
-  long = omega (arith, sized .long)
+pub emptying-starts : (A n m q : ℕ) (area : List ℕ) → Emptying A n m q 0 q area area
+emptying-starts A n m q area = record { kept = kept-none n area; drains = λ es d. d }
 
-  at-end : Ended A es n (stateIn n q area)
-  at-end = ended A es n within (stateIn n q area) (rw (queue-long n q area long (d .fits)) (d .removing))
+module _ (A n m queued c q : ℕ) (before area : List ℕ) (e : Emptying A n m queued c q before area) where
+  pub emptying-more : (r : ℕ) (after : List ℕ) → ((es : List Edge) → Draining A es n m c q area → Draining A es n m (c + 1) r after) × LinksKept n area after
+      → Emptying A n m queued (c + 1) r before after
+  emptying-more r after is = record { kept = kept-more n before area after (e .kept) (is .1); drains = λ es d. is .0 es (e .drains es d) }
 
-  same : a ≡ lowest (λ v. not (eqb (getD (stateIn n q area .degrees) v 0) 0)) 0 A
-  same = low ∙ lowest-agree _ _ 0 A (λ v b c. ap (λ x. not (eqb x 0)) (sym (degree-in n q area long (d .fits) v (omega arith))))
+  pub emptying-ends : Sized n m before → q ≤ c → ((es : List Edge) → Draining A es n m 0 queued before → Draining A es n m q q area) × LinksKept n before area
+  emptying-ends sized l = (λ es d. go es (e .drains es d), e .kept)
+    where
+      go : (es : List Edge) → Draining A es n m c q area → Draining A es n m q q area
+      go es x =
+          let all : c ≡ q = omega (arith, x .removing .reached, queue-long n q area (omega (arith, sized .long, e .kept .long)) (x .fits)) in
+          rw all at x
 
-  pub answer-cycle : a < A → cycle a ≡ derive A n es
-  answer-cycle l = read-cycle A es n few (stateIn n q area) at-end a same l
+module _ (A n m seeded q a : ℕ) (before area after : List ℕ) (sized : Sized n m before) (few : A ≤ n) (seed : Seeding n n seeded before area)
+    (drain : ((es : List Edge) → Draining A es n m 0 seeded area → Draining A es n m q q after) × LinksKept n area after)
+    (low : a ≡ lowest (λ v. not (eqb (getD after (n + v) 0) 0)) 0 A) where
+  kept : LinksKept n before after
+  kept = kept-more n before area after (seeding-kept n n seeded before area seed) (drain .1)
 
-  pub answer-ranks : A ≤ a → ranks (part (2 * n) A area) ≡ derive A n es
-  answer-ranks l =
-      ap ranks (sym (take-take A n (drop (2 * n) area) few) ∙ ap (take A) (sym (state-ranks n q area)))
-      ∙ read-ranks A es n few (stateIn n q area) at-end a same l
+  long : 4 * n ≤ length after
+  long = omega (arith, sized .long, kept .long)
+
+  module _ (es : List Edge) (laid : Laid n m es before) where
+    end : Draining A es n m q q after
+    end = drain .0 es (draining-starts A es n m seeded before area sized laid seed)
+
+    at-end : Ended A es n (stateIn n q after)
+    at-end = ended A es n (laid .within) (stateIn n q after) (rw (queue-long n q after long (end .fits)) (end .removing))
+
+    same : a ≡ lowest (λ v. not (eqb (getD (stateIn n q after .degrees) v 0) 0)) 0 A
+    same = low ∙ lowest-agree _ _ 0 A (λ v b c. ap (λ x. not (eqb x 0)) (sym (degree-in n q after long (end .fits) v (omega arith))))
+
+  pub derived-cycle : a < A → ((es : List Edge) → Laid n m es before → cycle a ≡ derive A n es) × LinksKept n before after
+  derived-cycle l = (λ es laid. read-cycle A es n few (stateIn n q after) (at-end es laid) a (same es laid) l, kept)
+
+  pub derived-ranks : A ≤ a → ((es : List Edge) → Laid n m es before → ranks (part (2 * n) A after) ≡ derive A n es) × LinksKept n before after
+  derived-ranks l =
+      (λ es laid.
+      ap ranks (sym (take-take A n (drop (2 * n) after) few) ∙ ap (take A) (sym (state-ranks n q after)))
+      ∙ read-ranks A es n few (stateIn n q after) (at-end es laid) a (same es laid) l,
+      kept)
+
+-- ---- the lowest atom left over, from a on
+
+module _ (p : ℕ → Bool) (n a : ℕ) (rest : lowest p 0 n ≡ lowest p a (n - a)) where
+  turn : a < n → n - a ≡ suc (n - (a + 1))
+  turn l = omega arith
+
+  pub left-here : a < n → p a ≡ true → a ≡ lowest p 0 n
+  left-here l e = sym (rest ∙ rw (turn l) (lowest-here p a (n - (a + 1)) e))
+
+  pub left-past : a < n → p a ≡ false → lowest p 0 n ≡ lowest p (a + 1) (n - (a + 1))
+  left-past l e = rest ∙ rw (turn l) (lowest-past p a (n - (a + 1)) e)
+
+  pub left-none : n ≤ a → a ≤ n → n ≡ lowest p 0 n
+  left-none l m = omega (arith, rest, lowest-is p a (n - a) .from, lowest-is p a (n - a) .within)
+
+pub left-test : (w x : ℕ) → w ≡ x → (w ≡ 0 → ⊥) → not (eqb x 0) ≡ true
+left-test w x e d = ap not (ne-eqb x 0 (λ z. d (e ∙ z)))
+
+pub done-test : (w x : ℕ) → w ≡ x → w ≡ 0 → not (eqb x 0) ≡ false
+done-test w x e z = ap not (eq-eqb x 0 (sym e ∙ z))
