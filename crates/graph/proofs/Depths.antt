@@ -1,17 +1,18 @@
 -- Laws of the peak over a vertex's edges, and of depths: the least ranks, once every vertex is removed.
 -- Assumes nothing.
-use Prim.Native.Nat.{ℕ, zero, suc, _+_, _≤_, _<_, max}
+use Prim.Native.Nat.{ℕ, zero, suc, _+_, _≤_, max}
 use native.Mathlib.Omega.{arith}
-use mathlib.Core.Path.{_≡_, refl, ap, ap₂, sym, _∙_}
+use mathlib.Core.Path.{_≡_, refl, ap, ap₂, sym}
 use mathlib.Core.Bool.{Bool, true, false, not, cond, _&&_, false≢true}
 use mathlib.Core.List.{List, [], _∷_, _++_}
 use lib.Dec.{eqb, ltb}
 use borrow.Author.Tests.{eqb-true, eq-eqb}
-use Rattle.base.specs.Each.{Each, each-both}
+use Rattle.base.specs.Each.{Each}
 use Rattle.graph.specs.Edge.{Edge, one, cost}
 use Rattle.graph.specs.Removed.{remaining, removed}
 use Rattle.graph.specs.Depth.{peak, every, depth}
 use Rattle.graph.specs.Accepts.{Accepts}
+use Rattle.graph.proofs.Ones.{one-most}
 
 pick-agree : (d p q r : Bool) (x y : ℕ) → one (d && not p) ≡ 0 → (p ≡ true → q ≡ r) → (p ≡ true → x ≡ y) → cond (d && q) x 0 ≡ cond (d && r) y 0
 pick-agree false p q r x y z i j = refl
@@ -25,10 +26,6 @@ pick-le w v c x R h = go (eqb w v) c refl
     go false c i = omega arith
     go true false i = omega arith
     go true true i = rw (eqb-true w v i) at h
-
-one-most : (b : Bool) → one b ≤ 1
-one-most true = omega arith
-one-most false = omega arith
 
 module _ (A : ℕ) where
   -- where no edge into v comes from outside p, the values on p are all that count

@@ -1,114 +1,28 @@
--- Kahn's removal: what holds before it, through each step, and at its end, whatever order the edges are gone over in.
+-- Kahn's removal: its invariant holds at the start and through each step, whatever order a vertex's edges are gone over in.
 -- Assumes nothing.
-use Prim.Native.Nat.{ℕ, zero, suc, _+_, _-_, _≤_, _<_, max}
+use Prim.Native.Nat.{ℕ, suc, _+_, _-_, _≤_, _<_, max}
 use native.Mathlib.Omega.{arith}
-use mathlib.Core.Path.{_≡_, refl, ap, ap₂, sym, _∙_}
+use mathlib.Core.Path.{_≡_, refl, ap, sym, _∙_}
 use mathlib.Core.Logic.{⊎-elim}
-use mathlib.Core.Bool.{Bool, true, false, not, cond, _&&_, false≢true}
+use mathlib.Core.Bool.{Bool, true, false, cond, _&&_, false≢true}
 use mathlib.Core.List.{List, [], _∷_, _++_}
 use lib.Dec.{eqb, ltb}
-use lib.ListN.{length, getD, set, take, drop, length-set, length-append, take-append-drop}
-use lib.Seq.{getD-set-same, getD-set-other, take-append-le, take-suc, take-length, getD-take, length-take-le, ext-getD}
-use borrow.Author.Tests.{eqb-true, eqb-false, eq-eqb, ne-eqb, ltb-true, ltb-false, lt-ltb, le-ltb, not-false}
-use Rattle.base.specs.Tests.{below-or, same-test, and-true}
-use Rattle.base.specs.Each.{Each, each-all, each-map}
-use Rattle.base.specs.Places.{count, lowest, lowest-is, lowest-agree, count-less, count-most}
-use Rattle.base.specs.Rising.{length-rising, rising-at}
+use lib.ListN.{length, getD, set, take, length-set, length-append}
+use lib.Seq.{getD-set-same, getD-set-other, take-append-le}
+use borrow.Author.Tests.{eqb-true, eqb-false, eq-eqb, ne-eqb, ltb-true, lt-ltb, le-ltb}
+use Rattle.base.specs.Tests.{below-or, and-true}
+use Rattle.base.specs.Each.{each-all}
+use Rattle.base.specs.Places.{count-less, count-most}
 use Rattle.graph.specs.Edge.{Edge, one, cost}
 use Rattle.graph.specs.Removed.{remaining, removed}
 use Rattle.graph.specs.Depth.{peak, every, depth}
-use Rattle.graph.specs.Derive.{ranks, cycle, table, lowestLeft, derive}
-use Rattle.graph.specs.Removal.{State, relax, edgesFrom, times, has, none, Removing, Ended}
+use Rattle.graph.specs.Derive.{ranks}
+use Rattle.graph.specs.Removal.{State, relax, edgesFrom, times, has, none, Removing}
 use Rattle.graph.proofs.Rounds.{remaining-mono, remaining-append, removed-late}
 use Rattle.graph.proofs.Depths.{peak-agree, peak-append, depth-step}
-
--- ---- how often a vertex is queued
-
-times-append : (v : ℕ) (xs ys : List ℕ) → times v (xs ++ ys) ≡ times v xs + times v ys
-unfolding times
-times-append v [] ys = omega arith
-times-append v (x ∷ xs) ys = omega (arith, times-append v xs ys)
-
-pub times-push : (v x : ℕ) (xs : List ℕ) → times v (xs ++ (x ∷ [])) ≡ times v xs + one (eqb v x)
-unfolding times
-times-push v x xs = times-append v xs (x ∷ []) ∙ omega arith
-
-times-take : (v c : ℕ) (q : List ℕ) → times v (take c q) ≤ times v q
-times-take v c q = omega (arith, times-append v (take c q) (drop c q), ap (times v) (take-append-drop c q))
-
-times-suc : (v c : ℕ) (q : List ℕ) → c < length q → times v (take (suc c) q) ≡ times v (take c q) + one (eqb v (getD q c 0))
-times-suc v c q l = ap (times v) (take-suc q c 0 l) ∙ times-push v (getD q c 0) (take c q)
-
--- a list of vertices below n, each at most once, is no longer than they are many
-length-count : (n : ℕ) (q : List ℕ) → ((v : ℕ) → n ≤ v → times v q ≡ 0) → ((v : ℕ) → times v q ≤ 1) → length q ≤ count (has q) 0 n
-unfolding times
-length-count n [] h o = omega arith
-length-count n (x ∷ xs) h o =
-    let here : one (eqb x x) ≡ 1 = ap one (eq-eqb x x refl) in
-    let l : x < n = ⊎-elim (λ a. a) (λ b. absurd (omega (arith, h x b))) (below-or x n) in
-    omega (
-      arith,
-      length-count n xs (λ v b. omega (arith, h v b)) (λ v. omega (arith, o v)),
-      count-less (has xs) (has (x ∷ xs)) 0 n x (omega arith) (omega arith) (le-ltb 0 (times x xs) (omega (arith, o x))) (lt-ltb 0 (times x (x ∷ xs)) (omega arith))
-          (λ v a b t. lt-ltb 0 (times v (x ∷ xs)) (omega (arith, ltb-true 0 (times v xs) t))),
-    )
-
-one-most : (b : Bool) → one b ≤ 1
-one-most true = omega arith
-one-most false = omega arith
-
-zero-one : (x : ℕ) → 0 < one (eqb x 0) → x ≡ 0
-zero-one x h = go (eqb x 0) refl
-  where
-    go : (b : Bool) → eqb x 0 ≡ b → x ≡ 0
-    go true e = eqb-true x 0 e
-    go false e = absurd (omega (arith, rw e at h))
-
-one-zero : (x : ℕ) → 0 < x → one (eqb x 0) ≡ 0
-one-zero x h = ap one (ne-eqb x 0 (λ e. omega arith))
-
--- ---- taking s out: what is left over falls by the edges from s
-
-module _ (p q : ℕ → Bool) (s : ℕ) (fresh : p s ≡ false) (gone : q s ≡ true) (same : (u : ℕ) → (u ≡ s → ⊥) → q u ≡ p u) where
-  remaining-out : (v : ℕ) (es : List Edge) → remaining p v es ≡ remaining q v es + remaining none v (edgesFrom s es)
-  unfolding remaining edgesFrom
-  remaining-out v [] = omega arith
-  remaining-out v (e ∷ es) = go (eqb (e .source) s) refl (remaining-out v es)
-    where
-      go : (c : Bool) → eqb (e .source) s ≡ c → remaining p v es ≡ remaining q v es + remaining none v (edgesFrom s es)
-          → one (eqb (e .target) v && not (p (e .source))) + remaining p v es
-          ≡ one (eqb (e .target) v && not (q (e .source))) + remaining q v es + remaining none v (cond c (e ∷ edgesFrom s es) (edgesFrom s es))
-      go true i ih = rw (eqb-true (e .source) s i, fresh, gone) (case (eqb (e .target) v))
-        where
-          case : (d : Bool) → one (d && true) + remaining p v es ≡ one (d && false) + remaining q v es + (one (d && true) + remaining none v (edgesFrom s es))
-          case true = omega arith
-          case false = omega arith
-      go false i ih = rw (same (e .source) (eqb-false (e .source) s i)) (omega arith)
-
-  peak-out : (A : ℕ) (f : ℕ → ℕ) (v : ℕ) (es : List Edge) → peak A q f v es ≡ max (peak A p f v es) (peak A every f v (edgesFrom s es))
-  unfolding peak edgesFrom
-  peak-out A f v [] = omega arith
-  peak-out A f v (e ∷ es) = go (eqb (e .source) s) refl (peak-out A f v es)
-    where
-      go : (c : Bool) → eqb (e .source) s ≡ c → peak A q f v es ≡ max (peak A p f v es) (peak A every f v (edgesFrom s es))
-          → max (cond (eqb (e .target) v && q (e .source)) (f (e .source) + cost A e) 0) (peak A q f v es)
-          ≡ max (max (cond (eqb (e .target) v && p (e .source)) (f (e .source) + cost A e) 0) (peak A p f v es)) (peak A every f v (cond c (e ∷ edgesFrom s es) (edgesFrom s es)))
-      go true i ih = rw (eqb-true (e .source) s i, fresh, gone) (case (eqb (e .target) v))
-        where
-          case : (d : Bool) → max (cond (d && true) (f s + cost A e) 0) (peak A q f v es)
-              ≡ max (max (cond (d && false) (f s + cost A e) 0) (peak A p f v es)) (max (cond (d && true) (f s + cost A e) 0) (peak A every f v (edgesFrom s es)))
-          case true = omega arith
-          case false = omega arith
-      go false i ih = rw (same (e .source) (eqb-false (e .source) s i)) (omega arith)
-
-peak-none : (A : ℕ) (f : ℕ → ℕ) (v : ℕ) (es : List Edge) → peak A none f v es ≡ 0
-unfolding peak
-peak-none A f v [] = refl
-peak-none A f v (e ∷ es) = go (eqb (e .target) v) (peak-none A f v es)
-  where
-    go : (d : Bool) → peak A none f v es ≡ 0 → max (cond (d && false) (f (e .source) + cost A e) 0) (peak A none f v es) ≡ 0
-    go true i = omega arith
-    go false i = omega arith
+use Rattle.graph.proofs.Ones.{one-most, one-neither, zero-one, one-zero}
+use Rattle.graph.proofs.Times.{times-push, times-take, times-suc, length-count}
+use Rattle.graph.proofs.TakenOut.{remaining-out, peak-out, peak-none}
 
 -- ---- the start: the queue has the vertices of degree 0
 
@@ -305,11 +219,7 @@ module _ (A : ℕ) (es : List Edge) (n : ℕ) where
         ))
     once-at v l false i =
         rw (getD-set-other (s .degrees) t v less 0 (eqb-false v t i))
-        (omega (arith, queue-times (eqb less 0) v, inv .once v l, not-here (eqb less 0) (eqb v t) i))
-      where
-        not-here : (x y : Bool) → y ≡ false → one (x && y) ≡ 0
-        not-here true y j = rw j
-        not-here false y j = refl
+        (omega (arith, queue-times (eqb less 0) v, inv .once v l, one-neither (eqb less 0) (eqb v t) i))
 
     pub removing-relax : Removing A es n c zs (relax A e s)
     unfolding relax
@@ -321,74 +231,11 @@ module _ (A : ℕ) (es : List Edge) (n : ℕ) where
           degree = λ v l. rw (queue-kept (eqb less 0)) (degree-at v l (eqb t v) refl);
           rank = λ v l. rw (queue-kept (eqb less 0)) (rank-at v l (eqb t v) refl);
           once = λ v l. once-at v l (eqb v t) refl;
-          vertices = λ v l. omega (arith, queue-times (eqb less 0) v, inv .vertices v l, elsewhere (eqb less 0) v l);
+          vertices = λ v l. omega (arith, queue-times (eqb less 0) v, inv .vertices v l, one-neither (eqb less 0) (eqb v t) (ne-eqb v t (λ i. omega arith)));
           rounds = rw (queue-kept (eqb less 0)) (inv .rounds);
         }
-      where
-        elsewhere : (x : Bool) (v : ℕ) → n ≤ v → one (x && eqb v t) ≡ 0
-        elsewhere true v l = ap one (ne-eqb v t (λ i. omega arith))
-        elsewhere false v l = refl
 
     -- what was taken out stays so
     pub taken-stays : has (take c (relax A e s .queue)) ≡ has (take c (s .queue))
     unfolding relax
     taken-stays = rw (queue-kept (eqb less 0))
-
--- ---- the end
-
-module _ (A : ℕ) (es : List Edge) (n : ℕ) (within : Each (λ e. e .source < n) es) (s : State) (inv : Removing A es n (length (s .queue)) [] s) where
-  whole : (v : ℕ) → times v (take (length (s .queue)) (s .queue)) ≡ times v (s .queue)
-  whole v = ap (times v) (take-length (s .queue))
-
-  taken : (v : ℕ) → 0 < times v (s .queue) → has (take (length (s .queue)) (s .queue)) v ≡ true
-  taken v h = lt-ltb 0 (times v (take (length (s .queue)) (s .queue))) (omega (arith, whole v))
-
-  found : (k v : ℕ) → v < n → removed es k v ≡ true → 0 < times v (s .queue)
-  unfolding removed remaining
-  found zero v l r = absurd (false≢true r)
-  found (suc k) v l r =
-      let o : remaining (has (take (length (s .queue)) (s .queue))) v es ≤ remaining (removed es k) v es =
-      remaining-mono (removed es k) (has (take (length (s .queue)) (s .queue))) v es (each-map _ _ es (λ e b t. taken (e .source) (found k (e .source) b t)) within) in
-      let z : getD (s .degrees) v 0 ≡ 0 = omega (arith, inv .degree v l, eqb-true (remaining (removed es k) v es) 0 r) in
-      omega (arith, inv .once v l, ap one (eq-eqb (getD (s .degrees) v 0) 0 z))
-
-  pub ended : Ended A es n s
-  ended =
-      record {
-        ranks-long = inv .ranks-long;
-        left = λ v l.
-            same-test (eqb (getD (s .degrees) v 0) 0) (removed es n v)
-            (λ t. sound v (omega (arith, inv .once v l, ap one t)))
-            (λ t. eq-eqb (getD (s .degrees) v 0) 0 (queued A es n (length (s .queue)) [] s inv v (found n v l t) .1));
-        ranked = λ v l r. ranked A es n (length (s .queue)) [] s inv v (taken v (found n v l r));
-      }
-    where
-      sound : (v : ℕ) → 0 < times v (s .queue) → removed es n v ≡ true
-      sound v h = removed-late es n (length (s .queue)) v (fits A es n (length (s .queue)) [] s inv) (inv .rounds v (taken v h))
-
--- ---- the answer read off the end
-
-module _ (A : ℕ) (es : List Edge) (n : ℕ) (few : A ≤ n) (s : State) (end : Ended A es n s) (r : ℕ)
-    (low : r ≡ lowest (λ v. not (eqb (getD (s .degrees) v 0) 0)) 0 A) where
-  same : r ≡ lowestLeft A n es
-  same = low ∙ lowest-agree _ _ 0 A (λ v a b. ap not (end .left v (omega arith)))
-
-  pub read-cycle : r < A → cycle r ≡ derive A n es
-  unfolding derive
-  read-cycle l = rw (← same, lt-ltb r A l)
-
-  pub read-ranks : A ≤ r → ranks (take A (s .ranks)) ≡ derive A n es
-  unfolding derive
-  read-ranks l =
-      rw (← same, le-ltb r A l)
-      (ap ranks
-      (ext-getD 0 (take A (s .ranks)) (table (depth A es n) A) (long ∙ sym (length-rising 0 (λ made k. depth A es n k) A))
-      (λ a i.
-      getD-take A (s .ranks) a 0 (omega (arith, long)) ∙ end .ranked a (omega (arith, long)) (atom a (omega (arith, long)))
-      ∙ sym (rising-at 0 (λ made k. depth A es n k) A a (omega (arith, long))))))
-    where
-      long : length (take A (s .ranks)) ≡ A
-      long = length-take-le A (s .ranks) (omega (arith, end .ranks-long))
-
-      atom : (a : ℕ) → a < A → removed es n a ≡ true
-      atom a h = not-false (removed es n a) (lowest-is (λ v. not (removed es n v)) 0 A .before a (omega arith) (omega (arith, same)))

@@ -1,5 +1,9 @@
+pub mod Ones
 pub mod Rounds
 pub mod Depths
 pub mod Paths
 pub mod Ranks
+pub mod Times
+pub mod TakenOut
 pub mod Kahn
+pub mod KahnEnd

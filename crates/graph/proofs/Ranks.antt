@@ -3,17 +3,17 @@
 use Prim.Native.Nat.{ℕ, zero, suc, _+_, _≤_, _<_}
 use native.Mathlib.Omega.{arith}
 use mathlib.Core.Path.{_≡_, refl, ap, sym, _∙_}
-use mathlib.Core.Logic.{_⊎_, inl, inr, ⊎-elim, _↔_}
+use mathlib.Core.Logic.{⊎-elim, _↔_}
 use mathlib.Core.Bool.{Bool, true, false, not, cond, false≢true}
 use mathlib.Core.List.{List, [], _∷_, List·Memᴰ}
 use lib.Dec.{ltb}
-use lib.ListN.{length, getD}
+use lib.ListN.{getD}
 use borrow.Author.Tests.{ltb-true, ltb-false, lt-ltb, le-ltb, not-true, not-false}
 use Rattle.base.specs.Tests.{below-or}
 use Rattle.base.specs.Each.{Each, each-map, each-both}
 use Rattle.base.specs.Places.{count, Lowest, lowest-is, count-le, count-less, count-most}
 use Rattle.base.specs.Rising.{length-rising, rising-at}
-use Rattle.graph.specs.Edge.{Edge, one, cost, Rises}
+use Rattle.graph.specs.Edge.{Edge, cost, Rises}
 use Rattle.graph.specs.Removed.{removed}
 use Rattle.graph.specs.Depth.{peak, every, depth}
 use Rattle.graph.specs.Accepts.{Accepts}

@@ -3,13 +3,13 @@
 use Prim.Native.Nat.{ℕ, zero, suc, _+_, _≤_, _<_}
 use native.Mathlib.Omega.{arith}
 use native.Mathlib.Decide.{le-ind}
-use mathlib.Core.Path.{_≡_, refl, ap, sym, _∙_}
+use mathlib.Core.Path.{_≡_, refl, sym, _∙_}
 use mathlib.Core.Logic.{_⊎_, inl, inr, ⊎-elim}
 use mathlib.Core.Bool.{Bool, true, false, not, _&&_, false≢true}
 use mathlib.Core.List.{List, [], _∷_, _++_}
 use lib.Dec.{eqb}
-use borrow.Author.Tests.{eqb-true, eqb-false, eq-eqb, not-true}
-use Rattle.base.specs.Tests.{both-left, both-right, both, below-or}
+use borrow.Author.Tests.{eqb-true, eq-eqb, not-true}
+use Rattle.base.specs.Tests.{both-left, both-right, below-or}
 use Rattle.base.specs.Each.{Each, each-all, each-map}
 use Rattle.base.specs.Places.{count, lowest, Lowest, lowest-is, count-less, count-most}
 use Rattle.graph.specs.Edge.{Edge, one}

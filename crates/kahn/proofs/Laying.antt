@@ -1,24 +1,29 @@
 -- Laying an edge keeps the area laid; a zeroed area has no edge.
 -- Assumes nothing.
-use Prim.Native.Nat.{ℕ, zero, suc, _+_, _*_, _≤_, _<_}
+use Prim.Native.Nat.{ℕ, suc, _+_, _*_, _≤_, _<_}
 use native.Mathlib.Numerals.{add-one}
 use native.Mathlib.Omega.{arith}
 use mathlib.Core.Path.{_≡_, refl, ap, sym, _∙_}
 use mathlib.Core.Logic.{⊎-elim}
-use mathlib.Core.Bool.{Bool, true, false, not, cond, _&&_}
+use mathlib.Core.Bool.{Bool, true, false, cond, _&&_}
 use mathlib.Core.List.{List, [], _∷_, _++_, append-nil}
 use lib.Dec.{eqb}
 use lib.ListN.{length, getD, set, length-set, length-append}
 use lib.Seq.{getD-set-same, getD-set-other}
 use borrow.Author.Tests.{eq-eqb, ne-eqb}
 use Rattle.base.specs.Tests.{equal-or}
-use Rattle.base.specs.Each.{Each, each-append}
+use Rattle.base.specs.Each.{each-append}
 use Rattle.graph.specs.Edge.{Edge, edge, one}
 use Rattle.graph.specs.Removed.{remaining}
 use Rattle.graph.specs.Removal.{edgesFrom, none}
 use Rattle.graph.proofs.Rounds.{remaining-append}
-use Rattle.kahn.specs.Area.{LinksKept}
-use Rattle.kahn.specs.Laid.{laying, Chain, stop, link, Chains, Laid}
+use Rattle.kahn.specs.Laid.{laying, Chain, stop, link, Laid}
+
+-- the words that laying an edge stores
+pub laid-words : (n m i s t next degree : ℕ) (area : List ℕ) → next ≡ getD area s 0 → degree ≡ getD area (n + t) 0
+    → set (set (set (set area (4 * n + i) t) (4 * n + m + i) next) s (i + 1)) (n + t) (degree + 1) ≡ laying n m i s t area
+unfolding laying
+laid-words n m i s t next degree area a b = rw (a, b)
 
 edges-append : (s : ℕ) (xs ys : List Edge) → edgesFrom s (xs ++ ys) ≡ edgesFrom s xs ++ edgesFrom s ys
 unfolding edgesFrom

@@ -1,10 +1,9 @@
 -- What each store of the crate's functions does to the sections.
 -- Assumes nothing.
-use Prim.Native.Nat.{ℕ, zero, suc, _+_, _*_, _-_, _≤_, _<_, max}
+use Prim.Native.Nat.{ℕ, _+_, _*_, _-_, _≤_, _<_, max}
 use native.Mathlib.Numerals.{add-one}
 use native.Mathlib.Omega.{arith}
 use mathlib.Core.Path.{_≡_, refl, ap, ap₂, sym, _∙_}
-use mathlib.Core.Logic.{⊎-elim}
 use mathlib.Core.Bool.{Bool, true, false, cond}
 use mathlib.Core.List.{List, [], _∷_, _++_}
 use lib.Dec.{eqb, ltb}
@@ -13,9 +12,8 @@ use lib.Seq.{getD-set-same, getD-set-other}
 use borrow.Author.Tests.{eq-eqb, ne-eqb}
 use Rattle.base.specs.Places.{places, places-end}
 use Rattle.graph.specs.Edge.{edge, one, cost}
-use Rattle.graph.specs.Removal.{State, relax}
+use Rattle.graph.specs.Removal.{relax}
 use Rattle.kahn.specs.Area.{part, stateIn, LinksKept}
-use Rattle.kahn.specs.Laid.{laying}
 use Rattle.kahn.specs.Seeding.{pushing, pushed, Seeding}
 use Rattle.kahn.proofs.Sections.{part-at, part-in, part-below, part-above, part-push}
 
@@ -180,10 +178,3 @@ module _ (A n q s t : ℕ) (area : List ℕ) (long : 4 * n ≤ length area) (roo
     where
       same : set (set area (n + t) (degree - 1)) (2 * n + t) rank ≡ stored
       same = rw (e, a, b, c, d)
-
--- ---- an edge laid
-
-pub laid-words : (n m i s t next degree : ℕ) (area : List ℕ) → next ≡ getD area s 0 → degree ≡ getD area (n + t) 0
-    → set (set (set (set area (4 * n + i) t) (4 * n + m + i) next) s (i + 1)) (n + t) (degree + 1) ≡ laying n m i s t area
-unfolding laying
-laid-words n m i s t next degree area a b = rw (a, b)

@@ -1,155 +1,23 @@
--- The removal in the work area: from laid edges to its start, along the links of a vertex, to its end.
+-- The walk along the links of a vertex that was taken out.
 -- Assumes nothing.
-use Prim.Native.Nat.{ℕ, zero, suc, _+_, _*_, _-_, _≤_, _<_}
+use Prim.Native.Nat.{ℕ, suc, _+_, _*_, _-_, _≤_, _<_}
 use native.Mathlib.Numerals.{add-one}
 use native.Mathlib.Omega.{arith}
 use mathlib.Core.Path.{_≡_, refl, ap, sym, _∙_}
 use mathlib.Core.Logic.{⊎-elim}
-use mathlib.Core.Bool.{Bool, true, false, not, cond, _&&_}
+use mathlib.Core.Bool.{true}
 use mathlib.Core.List.{List, [], _∷_, _++_}
-use lib.Dec.{eqb}
-use lib.ListN.{length, getD, take, drop}
-use lib.Seq.{take-take}
-use borrow.Author.Tests.{eq-eqb, ne-eqb, ltb-true, ltb-false}
-use Rattle.base.specs.Tests.{equal-or, below-or, and-true}
-use Rattle.base.specs.Each.{Each}
-use Rattle.base.specs.Places.{places, places-end, lowest, lowest-is, lowest-here, lowest-past, lowest-agree}
-use Rattle.graph.specs.Edge.{Edge, edge, one}
-use Rattle.graph.specs.Depth.{depth}
-use Rattle.graph.specs.Derive.{Derived, ranks, cycle, derive}
-use Rattle.graph.specs.Removal.{State, relax, edgesFrom, times, has, Removing, Ended}
+use lib.ListN.{length, getD, take}
+use Rattle.base.specs.Tests.{below-or}
+use Rattle.graph.specs.Edge.{Edge, edge}
+use Rattle.graph.specs.Removal.{relax, edgesFrom, has, Removing}
 use Rattle.graph.proofs.Depths.{depth-small}
-use Rattle.graph.proofs.Kahn.{times-push, removing-starts, fits, room, ranked, next-vertex, next-taken, removing-take, degree-left, removing-relax, taken-stays, ended, read-cycle, read-ranks}
-use Rattle.kahn.specs.Area.{Sized, part, stateIn, LinksKept}
-use Rattle.kahn.specs.Laid.{Chain, stop, link, Chains, Laid}
-use Rattle.kahn.specs.Seeding.{Seeding}
+use Rattle.graph.proofs.Kahn.{fits, room, ranked, next-vertex, next-taken, removing-take, degree-left, removing-relax, taken-stays}
+use Rattle.kahn.specs.Area.{Sized, stateIn, LinksKept}
+use Rattle.kahn.specs.Laid.{Chain, stop, link, Chains}
 use Rattle.kahn.specs.Draining.{Draining}
-use Rattle.kahn.proofs.Sections.{part-at, part-long}
-
--- ---- links that stay
-
-pub kept-none : (n : ℕ) (area : List ℕ) → LinksKept n area area
-kept-none n area = record { long = refl; first = λ k l. refl; edges = λ k l. refl }
-
-pub kept-more : (n : ℕ) (before area after : List ℕ) → LinksKept n before area → LinksKept n area after → LinksKept n before after
-kept-more n before area after p q =
-    record { long = q .long ∙ p .long; first = λ k l. q .first k l ∙ p .first k l; edges = λ k l. q .edges k l ∙ p .edges k l }
-
-pub sized-kept : (n m : ℕ) (before area : List ℕ) → Sized n m before → LinksKept n before area → Sized n m area
-sized-kept n m before area sized kept = record { vertices = sized .vertices; edges = sized .edges; long = omega (arith, sized .long, kept .long) }
-
-module _ (n m : ℕ) (area after : List ℕ) (kept : LinksKept n area after) where
-  chain-kept : (s p : ℕ) (zs : List Edge) → Chain n m area s p zs → Chain n m after s p zs
-  chain-kept s p zs stop = stop
-  chain-kept s p zs (link i t next {zs = ys} a b d x y c) =
-      link i t next a b d (kept .edges (4 * n + i) (omega arith) ∙ x) (kept .edges (4 * n + m + i) (omega arith) ∙ y) (chain-kept s next ys c)
-
-  chains-kept : (es : List Edge) → Chains n m es area → Chains n m es after
-  chains-kept es h s l = rw (kept .first s l) (chain-kept s (getD area s 0) (edgesFrom s es) (h s l))
-
--- ---- the start
-
-module _ (p : ℕ → Bool) (v : ℕ) where
-  times-end : (n : ℕ) → times v (places p 0 (suc n)) ≡ times v (places p 0 n) + one (p n && eqb v n)
-  times-end n = ap (λ k. times v (places p 0 k)) (sym (add-one n)) ∙ ap (times v) (places-end p n) ∙ go (p n)
-    where
-      go : (b : Bool) → times v (cond b (places p 0 n ++ (n ∷ [])) (places p 0 n)) ≡ times v (places p 0 n) + one (b && eqb v n)
-      go true = times-push v n (places p 0 n)
-      go false = omega arith
-
-  times-past : (n : ℕ) → n ≤ v → times v (places p 0 n) ≡ 0
-  unfolding places times
-  times-past zero l = refl
-  times-past (suc n) l = omega (arith, times-end n, times-past n (omega arith), go (p n))
-    where
-      go : (b : Bool) → one (b && eqb v n) ≡ 0
-      go true = ap one (ne-eqb v n (λ e. omega arith))
-      go false = refl
-
-  times-within : (n : ℕ) → v < n → times v (places p 0 n) ≡ one (p v)
-  times-within zero l = absurd (omega arith)
-  times-within (suc n) l = times-end n ∙ ⊎-elim here (λ d. there d (times-within n (omega arith))) (equal-or v n)
-    where
-      here : v ≡ n → times v (places p 0 n) + one (p n && eqb v n) ≡ one (p v)
-      here e = omega (arith, times-past n (omega arith), ap one (ap (λ b. p n && b) (eq-eqb v n e) ∙ and-true (p n) ∙ ap p (sym e)))
-
-      there : (v ≡ n → ⊥) → times v (places p 0 n) ≡ one (p v) → times v (places p 0 n) + one (p n && eqb v n) ≡ one (p v)
-      there d ih = omega (arith, go (p n))
-        where
-          go : (b : Bool) → one (b && eqb v n) ≡ 0
-          go true = ap one (ne-eqb v n d)
-          go false = refl
-
--- a part's words are those of the area
-module _ (n q : ℕ) (area : List ℕ) (long : 4 * n ≤ length area) (few : q ≤ n) where
-  queue-long : length (stateIn n q area .queue) ≡ q
-  unfolding stateIn
-  queue-long = part-long (3 * n) q area (omega arith)
-
-  degree-in : (v : ℕ) → v < n → getD (stateIn n q area .degrees) v 0 ≡ getD area (n + v) 0
-  unfolding stateIn
-  degree-in v l = part-at n n area v l
-
-  rank-in : (v : ℕ) → v < n → getD (stateIn n q area .ranks) v 0 ≡ getD area (2 * n + v) 0
-  unfolding stateIn
-  rank-in v l = part-at (2 * n) n area v l
-
-  queue-in : (c : ℕ) → c < q → getD (stateIn n q area .queue) c 0 ≡ getD area (3 * n + c) 0
-  unfolding stateIn
-  queue-in c l = part-at (3 * n) q area c l
-
-module _ (n q : ℕ) (area : List ℕ) where
-  state-queue : stateIn n q area .queue ≡ part (3 * n) q area
-  unfolding stateIn
-  state-queue = refl
-
-  state-degrees : stateIn n q area .degrees ≡ part n n area
-  unfolding stateIn
-  state-degrees = refl
-
-  state-ranks : stateIn n q area .ranks ≡ part (2 * n) n area
-  unfolding stateIn
-  state-ranks = refl
-
-pub seeding-kept : (n v q : ℕ) (before area : List ℕ) → Seeding n v q before area → LinksKept n before area
-seeding-kept n v q before area s = record { long = s .long; first = λ k l. s .low k (omega arith); edges = s .high }
-
--- laid edges and a seeded queue start the removal
-pub draining-starts : (A : ℕ) (es : List Edge) (n m q : ℕ) (before area : List ℕ) → Sized n m before → Laid n m es before → Seeding n n q before area
-    → Draining A es n m 0 q area
-draining-starts A es n m q before area sized laid s =
-    record {
-      fits = s .few;
-      chains = chains-kept n m before area (seeding-kept n n q before area s) es (laid .chains);
-      removing =
-          removing-starts A es n (stateIn n q area)
-          (degrees-long)
-          (ranks-long)
-          (λ v l. degree v l ∙ laid .degrees v l)
-          (λ v l. rank-in n q area long (s .few) v l ∙ s .low (2 * n + v) (omega arith) ∙ laid .ranks v l)
-          (λ v l. ap (times v) queue ∙ times-within p v n l ∙ ap (λ x. one (eqb x 0)) (sym (degree v l)))
-          (λ v l. ap (times v) queue ∙ times-past p v n l);
-    }
-  where
-    long : 4 * n ≤ length area
-    long = omega (arith, s .long, sized .long)
-
-    p : ℕ → Bool
-    p u = eqb (getD before (n + u) 0) 0
-
-    degree : (v : ℕ) → v < n → getD (stateIn n q area .degrees) v 0 ≡ getD before (n + v) 0
-    degree v l = degree-in n q area long (s .few) v l ∙ s .low (n + v) (omega arith)
-
-    queue : stateIn n q area .queue ≡ places p 0 n
-    queue = state-queue n q area ∙ s .queue
-
-    degrees-long : length (stateIn n q area .degrees) ≡ n
-    degrees-long = ap length (state-degrees n q area) ∙ part-long n n area (omega arith)
-
-    ranks-long : length (stateIn n q area .ranks) ≡ n
-    ranks-long = ap length (state-ranks n q area) ∙ part-long (2 * n) n area (omega arith)
-
--- ---- along the links of a vertex
+use Rattle.kahn.proofs.Sections.{queue-long, degree-in, rank-in, queue-in}
+use Rattle.kahn.proofs.Kept.{kept-none, kept-more, sized-kept, chain-kept, chains-kept}
 
 -- c vertices are taken out, the last of them s; what is left of its edges is reached from link p
 pub record Walking (A : ℕ) (es : List Edge) (n m c s p q : ℕ) (area : List ℕ) : Type 0 where
@@ -284,76 +152,3 @@ module _ (A n m c queued s : ℕ) (before : List ℕ) (sized : Sized n m before)
 
     pub spreading-ends : p ≡ 0 → ((es : List Edge) → Draining A es n m c queued before → Draining A es n m (c + 1) q area) × LinksKept n before area
     spreading-ends e = (λ es d. walk-end A es n m (c + 1) s q area (rw e at (w .walks es d)), w .kept)
-
--- ---- the end
-
--- what the loop over the queue keeps, from the area before it
-pub record Emptying (A n m queued c q : ℕ) (before area : List ℕ) : Type 0 where
-  pub kept : LinksKept n before area
-  pub drains : (es : List Edge) → Draining A es n m 0 queued before → Draining A es n m c q area
-
-pub emptying-starts : (A n m q : ℕ) (area : List ℕ) → Emptying A n m q 0 q area area
-emptying-starts A n m q area = record { kept = kept-none n area; drains = λ es d. d }
-
-module _ (A n m queued c q : ℕ) (before area : List ℕ) (e : Emptying A n m queued c q before area) where
-  pub emptying-more : (r : ℕ) (after : List ℕ) → ((es : List Edge) → Draining A es n m c q area → Draining A es n m (c + 1) r after) × LinksKept n area after
-      → Emptying A n m queued (c + 1) r before after
-  emptying-more r after is = record { kept = kept-more n before area after (e .kept) (is .1); drains = λ es d. is .0 es (e .drains es d) }
-
-  pub emptying-ends : Sized n m before → q ≤ c → ((es : List Edge) → Draining A es n m 0 queued before → Draining A es n m q q area) × LinksKept n before area
-  emptying-ends sized l = (λ es d. go es (e .drains es d), e .kept)
-    where
-      go : (es : List Edge) → Draining A es n m c q area → Draining A es n m q q area
-      go es x =
-          let all : c ≡ q = omega (arith, x .removing .reached, queue-long n q area (omega (arith, sized .long, e .kept .long)) (x .fits)) in
-          rw all at x
-
-module _ (A n m seeded q a : ℕ) (before area after : List ℕ) (sized : Sized n m before) (few : A ≤ n) (seed : Seeding n n seeded before area)
-    (drain : ((es : List Edge) → Draining A es n m 0 seeded area → Draining A es n m q q after) × LinksKept n area after)
-    (low : a ≡ lowest (λ v. not (eqb (getD after (n + v) 0) 0)) 0 A) where
-  kept : LinksKept n before after
-  kept = kept-more n before area after (seeding-kept n n seeded before area seed) (drain .1)
-
-  long : 4 * n ≤ length after
-  long = omega (arith, sized .long, kept .long)
-
-  module _ (es : List Edge) (laid : Laid n m es before) where
-    end : Draining A es n m q q after
-    end = drain .0 es (draining-starts A es n m seeded before area sized laid seed)
-
-    at-end : Ended A es n (stateIn n q after)
-    at-end = ended A es n (laid .within) (stateIn n q after) (rw (queue-long n q after long (end .fits)) (end .removing))
-
-    same : a ≡ lowest (λ v. not (eqb (getD (stateIn n q after .degrees) v 0) 0)) 0 A
-    same = low ∙ lowest-agree _ _ 0 A (λ v b c. ap (λ x. not (eqb x 0)) (sym (degree-in n q after long (end .fits) v (omega arith))))
-
-  pub derived-cycle : a < A → ((es : List Edge) → Laid n m es before → cycle a ≡ derive A n es) × LinksKept n before after
-  derived-cycle l = (λ es laid. read-cycle A es n few (stateIn n q after) (at-end es laid) a (same es laid) l, kept)
-
-  pub derived-ranks : A ≤ a → ((es : List Edge) → Laid n m es before → ranks (part (2 * n) A after) ≡ derive A n es) × LinksKept n before after
-  derived-ranks l =
-      (λ es laid.
-      ap ranks (sym (take-take A n (drop (2 * n) after) few) ∙ ap (take A) (sym (state-ranks n q after)))
-      ∙ read-ranks A es n few (stateIn n q after) (at-end es laid) a (same es laid) l,
-      kept)
-
--- ---- the lowest atom left over, from a on
-
-module _ (p : ℕ → Bool) (n a : ℕ) (rest : lowest p 0 n ≡ lowest p a (n - a)) where
-  turn : a < n → n - a ≡ suc (n - (a + 1))
-  turn l = omega arith
-
-  pub left-here : a < n → p a ≡ true → a ≡ lowest p 0 n
-  left-here l e = sym (rest ∙ rw (turn l) (lowest-here p a (n - (a + 1)) e))
-
-  pub left-past : a < n → p a ≡ false → lowest p 0 n ≡ lowest p (a + 1) (n - (a + 1))
-  left-past l e = rest ∙ rw (turn l) (lowest-past p a (n - (a + 1)) e)
-
-  pub left-none : n ≤ a → a ≤ n → n ≡ lowest p 0 n
-  left-none l m = omega (arith, rest, lowest-is p a (n - a) .from, lowest-is p a (n - a) .within)
-
-pub left-test : (w x : ℕ) → w ≡ x → (w ≡ 0 → ⊥) → not (eqb x 0) ≡ true
-left-test w x e d = ap not (ne-eqb x 0 (λ z. d (e ∙ z)))
-
-pub done-test : (w x : ℕ) → w ≡ x → w ≡ 0 → not (eqb x 0) ≡ false
-done-test w x e z = ap not (eq-eqb x 0 (sym e ∙ z))

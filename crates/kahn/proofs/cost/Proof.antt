@@ -2,14 +2,10 @@ use borrow.Author.Needs.{needs}
 use borrow.Author.Tests.{lt-ltb, le-ltb}
 use Rattle.kahn.proofs.cost.Statement.{statement}
 use Rattle.kahn.proofs.cost.Tie as tie
-use Rattle.kahn.proofs.cost.Reads as reads
-use Rattle.kahn.proofs.cost.Lts as lts
 
--- src/lib.rt:63:1
 returns : tie.Need-returns
 returns c = (rw (lt-ltb _ _ (c .if1 .taken)), search needs)
 
--- src/lib.rt:63:1
 returns-2 : tie.Need-returns-2
 returns-2 c = (rw (le-ltb _ _ (c .if1 .left)), search needs)
 

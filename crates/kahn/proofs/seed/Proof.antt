@@ -1,14 +1,11 @@
-use native.Mathlib.Omega.{arith}
-use borrow.Author.Needs.{needs}
-use mathlib.Core.Path.{_≡_}
 use Prim.Native.Nat.{_-_, _≤_}
+use native.Mathlib.Omega.{arith}
+use mathlib.Core.Path.{_≡_}
+use borrow.Author.Needs.{needs}
 use Rattle.kahn.specs.Seeding.{Seeding}
 use Rattle.kahn.proofs.Steps.{seeding-none, seeding-more}
 use Rattle.kahn.proofs.seed.Statement.{statement}
 use Rattle.kahn.proofs.seed.Tie as tie
-use Rattle.kahn.proofs.seed.Reads as reads
-use Rattle.kahn.proofs.seed.Lts as lts
-use Rattle.kahn.proofs.push.Reads as push-reads
 
 abbrev Inv-loop : tie.InvT-loop
 Inv-loop area₀ n q₀ v₀ area q v = (v ≤ n) × Seeding n v q area₀ area
@@ -16,31 +13,24 @@ Inv-loop area₀ n q₀ v₀ area q v = (v ≤ n) × Seeding n v q area₀ area
 abbrev μ-loop : tie.MeasureT-loop
 μ-loop area₀ n q₀ v₀ area q v = n - v
 
--- src/lib.rt:56:5
 loop-holds : tie.Need-loop-holds Inv-loop μ-loop
 loop-holds c = (search needs, seeding-none _ _)
 
--- src/lib.rt:57:9
 push-requires : tie.Need-push-requires Inv-loop μ-loop
 push-requires c κs = search needs
 
--- src/lib.rt:58:9
 add-v : tie.Need-add-v Inv-loop μ-loop
 add-v c = search needs
 
--- src/lib.rt:56:5
 loop-less : tie.Need-loop-less Inv-loop μ-loop
 loop-less c = search needs
 
--- src/lib.rt:56:5
 loop-again : tie.Need-loop-again Inv-loop μ-loop
 loop-again c = (search needs, seeding-more _ _ _ _ _ _ _ (c .before .before .before .before .before .loop .inv .1) (c .before .before .before .before .loop-test .taken) (c .before .before .before .before .before .before .before .pre .1) (c .before .before .push .ensures))
 
--- src/lib.rt:50:1
 same-length : tie.Need-same-length Inv-loop μ-loop
 same-length c = search needs
 
--- src/lib.rt:50:1
 returns : tie.Need-returns Inv-loop μ-loop
 returns c = let e : c .before .loop .v ≡ c .before .before .before .args .n = omega arith in rw e at (c .before .loop .inv .1)
 
