@@ -147,6 +147,24 @@ module _ (t : Counts) (nodes operands roots : List ℕ) (well : WellFormed t nod
           ∙ sym (List·getD-map class (rising falsum make (t .nodes)) k falsum)
           ∙ ap (λ cs. getD cs k frozen) (classes-are (t .nodes) (omega arith))
 
+  -- a node's class and highest rank are made of those of its operands
+  pub class-step : (k : ℕ) → k < t .nodes → class (formula t nodes operands k) ≡ nodeClass nodes operands (λ o. class (formula t nodes operands o)) (nodeAt nodes k)
+  class-step k l =
+      ap class (formula-step k l)
+      ∙ class-of nodes operands (formula t nodes operands) t (spanStart nodes k) k (nodeAt nodes k) (well .node k l) (λ o q. falsum-at o (omega arith))
+
+  pub highest-step : (rank : ℕ → ℕ) (k : ℕ) → k < t .nodes
+      → highest rank (formula t nodes operands k)
+      ≡ nodeHighest rank operands (class (formula t nodes operands k)) (λ o. highest rank (formula t nodes operands o)) (nodeAt nodes k)
+  highest-step rank k l =
+      ap (highest rank) (formula-step k l) ∙ highest-of rank operands (formula t nodes operands) (nodeAt nodes k)
+      ∙ ap (λ c. nodeHighest rank operands c (λ o. highest rank (formula t nodes operands o)) (nodeAt nodes k)) (ap class (sym (formula-step k l)))
+
+  -- so is its truth
+  pub truth-step : (I : Interpretation) (k : ℕ) → k < t .nodes
+      → sat I (formula t nodes operands k) ≡ nodeTruth I operands (λ o. sat I (formula t nodes operands o)) (nodeAt nodes k)
+  truth-step I k l = ap (sat I) (formula-step k l) ∙ truth-of I operands (formula t nodes operands) (nodeAt nodes k)
+
   -- node by node
   pub class-at : (k : ℕ) → class (formula t nodes operands k) ≡ getD (nodeClasses nodes operands (t .nodes)) k frozen
   unfolding formula class

@@ -9,3 +9,4 @@ pub mod NodeFormula
 pub mod NodeTruth
 pub mod NodeClass
 pub mod NodeRank
+pub mod Formed

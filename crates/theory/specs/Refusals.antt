@@ -61,6 +61,12 @@ all-admitted f i zero h = refl
 all-admitted f i (suc n) h =
     rw (h i (omega arith) (omega arith)) (all-admitted f (i + 1) n (λ k a b. h k (omega arith) (omega arith)))
 
+pub first-agree : (f g : ℕ → Admission) (i n : ℕ) → ((k : ℕ) → i ≤ k → k < i + n → f k ≡ g k) → firstRefusal f i n ≡ firstRefusal g i n
+unfolding firstRefusal
+first-agree f g i zero h = refl
+first-agree f g i (suc n) h =
+    ap₂ orElse (h i (omega arith) (omega arith)) (first-agree f g (i + 1) n (λ k a b. h k (omega arith) (omega arith)))
+
 pub start-none : (nodes : List ℕ) → 0 ≡ spanStart nodes 0
 unfolding spanStart
 start-none nodes = refl

@@ -8,10 +8,10 @@ use mathlib.Core.Bool.{Bool, true, false, _&&_}
 use mathlib.Core.List.{List, [], _∷_}
 use lib.Dec.{ltb}
 use lib.ListN.{length, getD, take, drop, length-drop}
-use lib.Seq.{drop-cons, length-take-le}
+use lib.Seq.{drop-cons, length-take-le, getD-take, getD-drop}
 use borrow.Author.Tests.{ltb-true, lt-ltb, le-ltb}
 use Rattle.base.specs.Tests.{both, both-left, both-right}
-use Rattle.base.specs.Each.{Each}
+use Rattle.base.specs.Each.{Each, each-at}
 use Rattle.theory.specs.Node.{span}
 use Rattle.theory.specs.Admission.{allBelow}
 
@@ -50,3 +50,20 @@ module _ (operands : List ℕ) (k i e : ℕ) (whole : Bool) (rest : whole ≡ al
   pub below-done : e ≤ i → true ≡ whole
   unfolding allBelow span
   below-done h = let left : e - i ≡ 0 = omega arith in sym (rest ∙ rw left)
+
+-- the count entries from start on stand in the table and are below n
+pub record Indexed (operands : List ℕ) (n start count : ℕ) : Type 0 where
+  pub within : start + count ≤ length operands
+  pub lower : (i : ℕ) → start ≤ i → i < start + count → getD operands i 0 < n
+
+pub each-indexed : (operands : List ℕ) (n k start count : ℕ) → k ≤ n → start + count ≤ length operands → Each (λ o. o < k) (span operands start count) → Indexed operands n start count
+unfolding span
+each-indexed operands n k start count m l h =
+    record {
+      within = l;
+      lower = λ i a b.
+          let at : start + (i - start) ≡ i = omega arith in
+          let low = each-at (λ o. o < k) 0 (span operands start count) h (i - start) (omega (arith, length-span operands start count l)) in
+          let same : getD (span operands start count) (i - start) 0 ≡ getD operands i 0 = getD-take count (drop start operands) (i - start) 0 (omega arith) ∙ getD-drop start operands (i - start) 0 ∙ ap (λ j. getD operands j 0) at in
+          omega (arith, same, low);
+    }

@@ -90,7 +90,7 @@ pub fn view(nodes: &[u32], k: usize) -> Node
 }
 
 // Each of the count entries from start on is a node below k.
-fn all_below(operands: &[u32], k: usize, start: usize, count: usize) -> bool
+pub fn all_below(operands: &[u32], k: usize, start: usize, count: usize) -> bool
     requires { ⌜ start + count ≤ length (now operands) ⌝ }
     ensures { λ r. ⌜ r ≡ allBelow k (span (now (operands .entry)) start count) ⌝ }
 {

@@ -1,6 +1,6 @@
 // Words lent in slices: read as numbers, and as sets of bits.
 ghost use mathlib.Core.Path.{_≡_};
-ghost use Prim.Native.Nat.{_<_};
+ghost use Prim.Native.Nat.{_<_, max};
 ghost use lib.ListN.{length, getD};
 ghost use Rattle.base.specs.Places.{places};
 ghost use Rattle.words.specs.Bit.{bit};
@@ -24,6 +24,13 @@ pub fn word64(table: &[u64], i: usize) -> usize
 {
     let x = table[i];
     x as usize
+}
+
+// The greater of two numbers.
+pub fn greater(a: usize, b: usize) -> usize
+    ensures { λ r. ⌜ r ≡ max a b ⌝ }
+{
+    if a < b { b } else { a }
 }
 
 // The word's set place number i, rising from i = 0, or 64 if there are not so many.

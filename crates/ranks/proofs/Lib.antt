@@ -1,0 +1,4 @@
+pub mod Edges
+pub mod Accepted
+pub mod Ranks
+pub mod Planned
