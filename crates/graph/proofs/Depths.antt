@@ -5,14 +5,14 @@ use native.Mathlib.Omega.{arith}
 use mathlib.Core.Path.{_≡_, refl, ap, ap₂, sym}
 use mathlib.Core.Bool.{Bool, true, false, not, cond, _&&_, false≢true}
 use mathlib.Core.List.{List, [], _∷_, _++_}
-use lib.Dec.{eqb, ltb}
+use lib.Dec.{eqb}
 use borrow.Author.Tests.{eqb-true, eq-eqb}
 use Rattle.base.specs.Each.{Each}
 use Rattle.graph.specs.Edge.{Edge, one, cost}
 use Rattle.graph.specs.Removed.{remaining, removed}
 use Rattle.graph.specs.Depth.{peak, every, depth}
 use Rattle.graph.specs.Accepts.{Accepts}
-use Rattle.graph.proofs.Ones.{one-most}
+use Rattle.graph.proofs.Cost.{cost-most}
 
 pick-agree : (d p q r : Bool) (x y : ℕ) → one (d && not p) ≡ 0 → (p ≡ true → q ≡ r) → (p ≡ true → x ≡ y) → cond (d && q) x 0 ≡ cond (d && r) y 0
 pick-agree false p q r x y z i j = refl
@@ -57,7 +57,7 @@ module _ (A : ℕ) where
   peak-small k f v (e ∷ es) b =
       omega (
         arith,
-        pick-le (e .target) v true (f (e .source) + cost A e) (λ u. suc k) (omega (arith, b (e .source), one-most (ltb (e .target) A))),
+        pick-le (e .target) v true (f (e .source) + cost A e) (λ u. suc k) (omega (arith, b (e .source), cost-most A e)),
         peak-small k f v es b,
       )
 

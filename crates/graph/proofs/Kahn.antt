@@ -16,7 +16,8 @@ use Rattle.base.specs.Places.{count-less, count-most}
 use Rattle.graph.specs.Edge.{Edge, one, cost}
 use Rattle.graph.specs.Removed.{remaining, removed}
 use Rattle.graph.specs.Depth.{peak, every, depth}
-use Rattle.graph.specs.Removal.{State, relax, edgesFrom, times, has, none, Removing}
+use Rattle.graph.specs.Removal.{State, relax, edgesFrom}
+use Rattle.graph.specs.Removing.{times, has, none, Removing}
 use Rattle.graph.proofs.Rounds.{remaining-mono, remaining-append, removed-late}
 use Rattle.graph.proofs.Depths.{peak-agree, peak-append, depth-step}
 use Rattle.graph.proofs.Ones.{one-most, one-neither, zero-one, one-zero}

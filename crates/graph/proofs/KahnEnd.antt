@@ -17,7 +17,8 @@ use Rattle.graph.specs.Edge.{Edge, one}
 use Rattle.graph.specs.Removed.{remaining, removed}
 use Rattle.graph.specs.Depth.{depth}
 use Rattle.graph.specs.Derive.{ranks, cycle, table, lowestLeft, derive}
-use Rattle.graph.specs.Removal.{State, times, has, Removing, Ended}
+use Rattle.graph.specs.Removal.{State}
+use Rattle.graph.specs.Removing.{times, has, Removing, Ended}
 use Rattle.graph.proofs.Rounds.{remaining-mono, removed-late}
 use Rattle.graph.proofs.Kahn.{fits, queued, ranked}
 

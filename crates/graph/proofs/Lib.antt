@@ -1,4 +1,5 @@
 pub mod Ones
+pub mod Cost
 pub mod Rounds
 pub mod Depths
 pub mod Paths
@@ -7,3 +8,4 @@ pub mod Times
 pub mod TakenOut
 pub mod Kahn
 pub mod KahnEnd
+pub mod Examples

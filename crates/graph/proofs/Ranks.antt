@@ -20,15 +20,10 @@ use Rattle.graph.specs.Accepts.{Accepts}
 use Rattle.graph.specs.Right.{Least, Stuck, Right}
 use Rattle.graph.specs.Derive.{Derived, ranks, cycle, table, lowestLeft, derive}
 use Rattle.graph.specs.Grounded.{Grounded}
+use Rattle.graph.proofs.Cost.{cost-strict, cost-plain}
 use Rattle.graph.proofs.Rounds.{removed-closed}
 use Rattle.graph.proofs.Depths.{depth-rises, depth-least, depth-step}
 use Rattle.graph.proofs.Paths.{each-in, peak-is}
-
-cost-strict : (A : ℕ) (e : Edge) → e .target < A → cost A e ≡ 1
-cost-strict A e l = rw (lt-ltb (e .target) A l)
-
-cost-plain : (A : ℕ) (e : Edge) → A ≤ e .target → cost A e ≡ 0
-cost-plain A e l = rw (le-ltb (e .target) A l)
 
 -- what holds of the edges into each vertex holds of each edge
 each-target : (n : ℕ) (Q : ℕ → Edge → Type 0) (es : List Edge) → Each (λ e. e .target < n) es

@@ -80,6 +80,14 @@ module _ (es : List Edge) where
   pub before-removed : (k v : ℕ) → removed es k v ≡ true → Each (λ e. e .target ≡ v → removed es k (e .source) ≡ true) es
   before-removed k v r = next-removed k v (removed-more k v r)
 
+  -- whatever has each vertex whose predecessors it all has, has what is taken out
+  pub removed-least : (p : ℕ → Bool) → ((v : ℕ) → Each (λ e. e .target ≡ v → p (e .source) ≡ true) es → p v ≡ true)
+      → (k v : ℕ) → removed es k v ≡ true → p v ≡ true
+  unfolding removed
+  removed-least p closed zero v r = absurd (false≢true r)
+  removed-least p closed (suc k) v r =
+      closed v (each-map _ _ es (λ e h i. removed-least p closed k (e .source) (h i)) (next-removed k v r))
+
   module _ (n : ℕ) (within : Each (λ e. e .source < n) es) where
     -- round k + 1 takes out no vertex
     abbrev Still : ℕ → Type 0

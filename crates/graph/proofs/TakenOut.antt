@@ -10,7 +10,8 @@ use borrow.Author.Tests.{eqb-true, eqb-false}
 use Rattle.graph.specs.Edge.{Edge, one, cost}
 use Rattle.graph.specs.Removed.{remaining}
 use Rattle.graph.specs.Depth.{peak, every}
-use Rattle.graph.specs.Removal.{edgesFrom, none}
+use Rattle.graph.specs.Removal.{edgesFrom}
+use Rattle.graph.specs.Removing.{none}
 
 module _ (p q : ℕ → Bool) (s : ℕ) (fresh : p s ≡ false) (gone : q s ≡ true) (same : (u : ℕ) → (u ≡ s → ⊥) → q u ≡ p u) where
   pub remaining-out : (v : ℕ) (es : List Edge) → remaining p v es ≡ remaining q v es + remaining none v (edgesFrom s es)

@@ -14,7 +14,7 @@ use borrow.Author.Tests.{eq-eqb, ne-eqb, ltb-true, lt-ltb, le-ltb}
 use Rattle.base.specs.Tests.{below-or, and-true, equal-or}
 use Rattle.base.specs.Places.{count, count-less, places, places-end}
 use Rattle.graph.specs.Edge.{one}
-use Rattle.graph.specs.Removal.{times, has}
+use Rattle.graph.specs.Removing.{times, has}
 use Rattle.graph.proofs.Ones.{one-neither}
 
 times-append : (v : ℕ) (xs ys : List ℕ) → times v (xs ++ ys) ≡ times v xs + times v ys

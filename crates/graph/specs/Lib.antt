@@ -6,3 +6,4 @@ pub mod Derive
 pub mod Right
 pub mod Grounded
 pub mod Removal
+pub mod Removing

@@ -15,7 +15,8 @@ use Rattle.base.specs.Tests.{equal-or}
 use Rattle.base.specs.Each.{each-append}
 use Rattle.graph.specs.Edge.{Edge, edge, one}
 use Rattle.graph.specs.Removed.{remaining}
-use Rattle.graph.specs.Removal.{edgesFrom, none}
+use Rattle.graph.specs.Removal.{edgesFrom}
+use Rattle.graph.specs.Removing.{none}
 use Rattle.graph.proofs.Rounds.{remaining-append}
 use Rattle.kahn.specs.Laid.{laying, Chain, stop, link, Laid}
 

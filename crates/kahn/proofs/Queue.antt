@@ -11,7 +11,7 @@ use lib.Seq.{take-take}
 use Rattle.base.specs.Places.{lowest, lowest-agree}
 use Rattle.graph.specs.Edge.{Edge}
 use Rattle.graph.specs.Derive.{ranks, cycle, derive}
-use Rattle.graph.specs.Removal.{Ended}
+use Rattle.graph.specs.Removing.{Ended}
 use Rattle.graph.proofs.Kahn.{fits}
 use Rattle.graph.proofs.KahnEnd.{ended, read-cycle, read-ranks}
 use Rattle.kahn.specs.Area.{Sized, part, stateIn, LinksKept}

@@ -10,7 +10,7 @@ use lib.ListN.{length, getD}
 use Rattle.base.specs.Places.{places}
 use Rattle.graph.specs.Edge.{Edge, one}
 use Rattle.graph.specs.Derive.{ranks}
-use Rattle.graph.specs.Removal.{times}
+use Rattle.graph.specs.Removing.{times}
 use Rattle.graph.proofs.Kahn.{removing-starts, fits}
 use Rattle.kahn.specs.Area.{Sized, stateIn, LinksKept}
 use Rattle.kahn.specs.Laid.{Laid}

@@ -10,7 +10,8 @@ use mathlib.Core.List.{List, [], _∷_, _++_}
 use lib.ListN.{length, getD, take}
 use Rattle.base.specs.Tests.{below-or}
 use Rattle.graph.specs.Edge.{Edge, edge}
-use Rattle.graph.specs.Removal.{relax, edgesFrom, has, Removing}
+use Rattle.graph.specs.Removal.{relax, edgesFrom}
+use Rattle.graph.specs.Removing.{has, Removing}
 use Rattle.graph.proofs.Depths.{depth-small}
 use Rattle.graph.proofs.Kahn.{fits, room, ranked, next-vertex, next-taken, removing-take, degree-left, removing-relax, taken-stays}
 use Rattle.kahn.specs.Area.{Sized, stateIn, LinksKept}

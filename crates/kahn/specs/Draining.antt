@@ -3,7 +3,7 @@
 use Prim.Native.Nat.{ℕ, _≤_}
 use mathlib.Core.List.{List, []}
 use Rattle.graph.specs.Edge.{Edge}
-use Rattle.graph.specs.Removal.{Removing}
+use Rattle.graph.specs.Removing.{Removing}
 use Rattle.kahn.specs.Area.{stateIn}
 use Rattle.kahn.specs.Laid.{Chains}
 

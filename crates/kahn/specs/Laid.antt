@@ -7,7 +7,8 @@ use lib.ListN.{length, getD, set}
 use Rattle.base.specs.Each.{Each}
 use Rattle.graph.specs.Edge.{Edge, edge}
 use Rattle.graph.specs.Removed.{remaining}
-use Rattle.graph.specs.Removal.{edgesFrom, none}
+use Rattle.graph.specs.Removal.{edgesFrom}
+use Rattle.graph.specs.Removing.{none}
 
 -- edge number i from s to t laid
 unfoldable pub laying : ℕ → ℕ → ℕ → ℕ → ℕ → List ℕ → List ℕ
