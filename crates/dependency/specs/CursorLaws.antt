@@ -178,8 +178,17 @@ module _ (t : Counts) (nodes operands classes roots : List ℕ) where
       next-slot o p h fits e =
           record {
             grown =
-                rw (lt-ltb (c .node) (t .nodes) l, group-slots (nodeAt nodes (c .node)) g (c .slot + 1), group-slots (nodeAt nodes (c .node)) g (c .slot), p, span-end operands s (c .slot) (omega arith), ← e,
-                operand-edges-append (t .atoms) classes (t .atoms + c .node) (span operands s (c .slot)) (o ∷ []), append-nil, append-assoc);
+                rw (
+                  lt-ltb (c .node) (t .nodes) l,
+                  group-slots (nodeAt nodes (c .node)) g (c .slot + 1),
+                  group-slots (nodeAt nodes (c .node)) g (c .slot),
+                  p,
+                  span-end operands s (c .slot) (omega arith),
+                  ← e,
+                  operand-edges-append (t .atoms) classes (t .atoms + c .node) (span operands s (c .slot)) (o ∷ []),
+                  append-nil,
+                  append-assoc,
+                );
             range = record { node-in = range .node-in; root-in = range .root-in; slot-in = omega (arith, slots-are (nodeAt nodes (c .node)) g); slots-over = λ q. absurd (omega arith); roots-later = range .roots-later };
             less = omega (arith, start-next nodes (c .node), start-below nodes (c .node + 1) (t .nodes) (omega arith), slots-are (nodeAt nodes (c .node)) g);
           }

@@ -3,20 +3,23 @@
 use Prim.Native.Nat.{ℕ, zero, suc, _+_, _*_, _-_, _<_, _≤_}
 use native.Mathlib.Omega.{arith}
 use mathlib.Core.Path.{_≡_, refl, sym, ap, _∙_}
-use mathlib.Core.Bool.{Bool, true, false, true≢false, false≢true}
+use mathlib.Core.Bool.{Bool, true, false, cond, true≢false, false≢true}
 use mathlib.Core.List.{List, [], _∷_, _++_, append-nil}
 use lib.ListN.{length, getD, take, drop, length-append, length-drop}
-use lib.Seq.{length-take-le, take-at, drop-at, take-all, drop-length}
+use lib.Seq.{length-take-le, take-at, drop-at, take-all, drop-length, drop-drop}
 use Rattle.graph.specs.Edge.{Edge, edge}
 use Rattle.theory.specs.declared.Counts.{Counts}
-use Rattle.kahn.specs.Area.{Sized}
+use Rattle.kahn.specs.Area.{Sized, part}
 use Rattle.kahn.specs.Laid.{laying, Laid}
-use Rattle.kahn.proofs.Laying.{degree-most, laid-more}
+use Rattle.base.specs.Gather.{gather}
+use Rattle.theory.specs.Admission.{spanStart}
+use Rattle.kahn.proofs.Laying.{degree-most, laid-none, laid-more}
 use Rattle.ranks.specs.Dependency.{dependencies}
 use Rattle.ranks.specs.Highest.{part-rest}
 use Rattle.dependency.specs.Cursor.{before, left, InRange, Moved, Stepped}
 use Rattle.dependency.specs.Lent.{Lent}
-use Rattle.dependency.specs.Laying.{most, Ready, LaidBefore, LaidNext}
+use Rattle.dependency.specs.Laying.{most, Ready, LaidBefore, LaidNext, Empty, AllLaid}
+use Rattle.dependency.specs.CursorLaws.{before-node}
 use Rattle.dependency.specs.declared.Cursor.{Cursor}
 use Rattle.dependency.specs.declared.Laying.{Laying}
 
@@ -104,3 +107,66 @@ module _ (t : Counts) (nodes operands roots : List ℕ) (v : ℕ) (area : List �
     pub laid-all : before t nodes operands (take v area) roots (l .cursor) ≡ dependencies t nodes operands (take v area) roots
         → LaidNext t nodes operands roots v area area l (record { laid = l .laid; cursor = l .cursor; done = true })
     laid-all e = record { long = refl; classes = refl; more = λ q. absurd (true≢false q); all = λ q. rw e at (b .laid) }
+
+-- ---- the loop that lays all
+
+-- what holds between two steps: area₀ at the start, area now
+pub record LayingAll (t : Counts) (nodes operands roots : List ℕ) (v : ℕ) (area₀ area : List ℕ) (l : Laying) : Type 0 where
+  pub long : length area ≡ length area₀
+  pub classes : take v area ≡ take v area₀
+  pub more : l .done ≡ false → LaidBefore t nodes operands roots v area l
+  pub all : l .done ≡ true → Laid v (most t) (dependencies t nodes operands (take v area₀) roots) (drop v area)
+
+abbrev pub toLay : Counts → List ℕ → List ℕ → List ℕ → ℕ → List ℕ → Laying → ℕ
+toLay t nodes operands roots v area₀ l = cond (l .done) 0 (suc (left t nodes operands (take v area₀) roots (l .cursor)))
+
+pub ready-later : (t : Counts) (nodes operands roots : List ℕ) (v : ℕ) (area₀ area : List ℕ) → length area ≡ length area₀ → Ready t nodes operands roots v area₀ → Ready t nodes operands roots v area
+ready-later t nodes operands roots v area₀ area e r =
+    record { limited = r .limited; tables = r .tables; listed = r .listed; starts = r .starts; vertices = r .vertices; long = omega (arith, r .long) }
+
+pub laying-starts : (t : Counts) (nodes operands roots : List ℕ) (v : ℕ) (area : List ℕ) → Ready t nodes operands roots v area → Empty v area
+    → LayingAll t nodes operands roots v area area (record { laid = 0; cursor = record { node = 0; slot = 0; root = 0 }; done = false })
+unfolding gather left spanStart
+laying-starts t nodes operands roots v area r z =
+    let none = before-node t nodes operands (take v area) roots 0 0 refl (omega arith) in
+    record {
+      long = refl;
+      classes = refl;
+      more = λ q. record {
+        range = record { node-in = omega arith; root-in = omega arith; slot-in = omega arith; slots-over = λ h. refl; roots-later = λ h. refl };
+        number = rw none;
+        room = omega (arith, r .starts);
+        laid = rw none (laid-none v (most t) (drop v area) (z .zero-words));
+      };
+      all = λ q. absurd (false≢true q);
+    }
+
+module _ (t : Counts) (nodes operands roots : List ℕ) (v : ℕ) (area₀ area after : List ℕ) (l r : Laying) (was : LayingAll t nodes operands roots v area₀ area l) (step : LaidNext t nodes operands roots v area after l r) where
+  pub laying-more : LayingAll t nodes operands roots v area₀ after r
+  laying-more =
+      record {
+        long = step .long ∙ was .long;
+        classes = step .classes ∙ was .classes;
+        more = λ q. step .more q .0;
+        all = λ q. rw (was .classes) at (step .all q);
+      }
+
+  pub laying-less : l .done ≡ false → toLay t nodes operands roots v area₀ r < toLay t nodes operands roots v area₀ l
+  laying-less e = rw e (go (r .done) refl)
+    where
+      go : (b : Bool) → r .done ≡ b → cond b 0 (suc (left t nodes operands (take v area₀) roots (r .cursor))) < suc (left t nodes operands (take v area₀) roots (l .cursor))
+      go true q = omega arith
+      go false q = omega (arith, rw (was .classes) at (step .more q .1))
+
+-- ---- the derivation over them
+
+pub ranks-part : (v n : ℕ) (area ys : List ℕ) → v ≤ length area
+    → part (3 * v) n (take v area ++ (ys ++ drop (length area - v) (drop v area))) ≡ part (2 * v) n ys
+ranks-part v n area ys fits =
+    let three : v + 2 * v ≡ 3 * v = omega arith in
+    ap (take n) (ap (λ m. drop m (take v area ++ (ys ++ drop (length area - v) (drop v area)))) (sym three)
+    ∙ sym (drop-drop (2 * v) v (take v area ++ (ys ++ drop (length area - v) (drop v area)))) ∙ ap (drop (2 * v)) (tail-back v area ys fits))
+
+pub laid-part : (t : Counts) (nodes operands roots : List ℕ) (v : ℕ) (area after : List ℕ) → AllLaid t nodes operands roots v area after
+    → Laid v (most t) (dependencies t nodes operands (take v area) roots) (take (length after - v) (drop v after))
+laid-part t nodes operands roots v area after a = rw (part-rest v after) (a .laid)

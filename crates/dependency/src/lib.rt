@@ -11,7 +11,6 @@ ghost use Rattle.dependency.specs.Lent.{Lent};
 ghost use Rattle.dependency.specs.Cursor.{InRange, Stepped};
 ghost use Rattle.dependency.specs.CursorLaws.{Grouped};
 ghost use Rattle.dependency.specs.Laying.{Ready, LaidBefore, LaidNext, Empty, AllLaid};
-
 use compile::Produced;
 use kahn::Derivation;
 use theory::Counts;

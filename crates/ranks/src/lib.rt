@@ -12,7 +12,6 @@ ghost use Rattle.ranks.specs.Highest.{highestBy};
 ghost use Rattle.ranks.specs.RankCheck.{bodyOrder, producedOrder, orderBy, rankCheck};
 ghost use Rattle.ranks.specs.Classed.{Classed};
 ghost use Rattle.ranks.specs.MadeIn.{MadeIn};
-
 use compile::Produced;
 use theory::Admission;
 use theory::Counts;
@@ -96,7 +95,13 @@ fn body_order(area: &[u32], v: usize, ranks: &[u32], head: usize, body: usize) -
     }
 }
 
-fn produced_order(counts: Counts, area: &[u32], v: usize, ranks: &[u32], made: Produced) -> Admission
+fn produced_order(
+    counts: Counts,
+    area: &[u32],
+    v: usize,
+    ranks: &[u32],
+    made: Produced,
+) -> Admission
     requires { ⌜ (counts .nodes ≤ v) × (v + counts .nodes ≤ length (now area)) × (counts .atoms ≤ length (now ranks)) × MadeIn counts made ⌝ }
     ensures { λ r. ⌜ r ≡ producedOrder (take v (now (area .entry))) (drop v (now (area .entry))) (now (ranks .entry)) made ⌝ }
 {
