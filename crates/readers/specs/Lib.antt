@@ -1,0 +1,6 @@
+pub mod Joined
+pub mod Laid
+pub mod Reader
+pub mod Incidences
+pub mod Readers
+pub mod Planned
