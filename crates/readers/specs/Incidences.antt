@@ -23,13 +23,16 @@ item slot entry = record { slot = slot; entry = entry }
 abbrev pub atomSlot : ℕ → ℕ → ℕ
 atomSlot n a = n + 1 + a
 
+unfoldable pub operandItems : ℕ → List ℕ → List Item
+operandItems k os = map (λ o. item o (nodeReader k)) os
+
 -- node k reads its operands, one entry an occurrence; an Atom node is listed with its atom
 unfoldable pub nodeItems : ℕ → List ℕ → ℕ → Node → List Item
 nodeItems n operands k (Atom a) = item (atomSlot n a) k ∷ []
 nodeItems n operands k False = []
-nodeItems n operands k (Implies l r) = map (λ o. item o (nodeReader k)) (operandsOf operands (Implies l r))
-nodeItems n operands k (And s c) = map (λ o. item o (nodeReader k)) (operandsOf operands (And s c))
-nodeItems n operands k (Or s c) = map (λ o. item o (nodeReader k)) (operandsOf operands (Or s c))
+nodeItems n operands k (Implies l r) = operandItems k (operandsOf operands (Implies l r))
+nodeItems n operands k (And s c) = operandItems k (operandsOf operands (And s c))
+nodeItems n operands k (Or s c) = operandItems k (operandsOf operands (Or s c))
 nodeItems n operands k Unknown = []
 
 -- producer i reads its body; its second word is the body + 1, 0 without body

@@ -52,6 +52,9 @@ module _ {A : Type 0} where
   unfolding joined
   joined-last f n = joined-split f 0 n 1 ∙ rw (zero-add, append-nil)
 
+  pub joined-more : (f : ℕ → List A) (n : ℕ) → joined f 0 (suc n) ≡ joined f 0 n ++ f n
+  joined-more f n = ap (λ m. joined f 0 m) (sym (add-one n)) ∙ joined-last f n
+
   pub joined-none : (f : ℕ → List A) (i n : ℕ) → ((k : ℕ) → i ≤ k → k < i + n → f k ≡ []) → joined f i n ≡ []
   unfolding joined
   joined-none f i zero h = refl

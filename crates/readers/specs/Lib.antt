@@ -4,3 +4,4 @@ pub mod Reader
 pub mod Incidences
 pub mod Readers
 pub mod Planned
+pub mod Cursor

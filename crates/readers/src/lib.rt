@@ -1,9 +1,15 @@
 // The reader lists: who reads each node's truth. A port of tight/readers.rs.
 ghost use mathlib.Core.Path.{_≡_};
-ghost use mathlib.Core.List.{_++_};
+ghost use mathlib.Core.List.{[], _∷_, _++_};
 ghost use Prim.Native.Nat.{ℕ, _+_, _-_, _*_, _^_, _<_, _≤_};
 ghost use lib.ListN.{length, getD, drop};
 ghost use Rattle.readers.specs.Reader.{nodeReader, producerReader, rootReader, readingOf};
+ghost use Rattle.readers.specs.Incidences.{item, operandItems, nodeItems, producerItems, rootItems, incidences};
+ghost use Rattle.readers.specs.Cursor.{listedAt, unitItems, units, restOf, At, Answers};
+ghost use Rattle.readers.specs.Planned.{Planned};
+ghost use Rattle.theory.specs.Node.{nodeAt, span};
+ghost use Rattle.theory.specs.Limits.{Limited};
+ghost use Rattle.theory.specs.WellFormed.{NodeTables};
 use theory::Counts;
 use theory::Node;
 
@@ -54,4 +60,151 @@ impl Reader {
             _ => Reading::Unknown,
         }
     }
+}
+
+// Where a pass over the incidences stands: nodes, producers and root positions numbered through, and how many incidences of that one are behind.
+pub struct Cursor {
+    pub unit: usize,
+    pub index: usize,
+}
+
+// One incidence of a node, a producer or a root position: the list's number and the entry.
+pub enum Listed {
+    Entry(usize, u64),
+    Past,
+}
+
+// The next incidence and where the pass stands behind it.
+pub enum Incidence {
+    Next(usize, u64, Cursor),
+    Done,
+}
+
+// Incidence j of an And or Or: operand j of its span.
+fn operand_incidence(operands: &[u32], k: usize, start: usize, count: usize, j: usize) -> Listed
+    requires { ⌜ (start + count ≤ length (now operands)) × (k < 2 ^ 62) ⌝ }
+    ensures { λ r. ⌜ r ≡ listedAt (operandItems k (span (now (operands .entry)) start count)) j ⌝ }
+{
+    if j < count {
+        Listed::Entry(words::word(operands, start + j), Reader::node(k).0)
+    } else {
+        Listed::Past
+    }
+}
+
+// Incidence j of a node that reads two.
+fn implies_incidence(k: usize, left: usize, right: usize, j: usize) -> Listed
+    requires { ⌜ k < 2 ^ 62 ⌝ }
+    ensures { λ r. ⌜ r ≡ listedAt (operandItems k (left ∷ right ∷ [])) j ⌝ }
+{
+    match j {
+        0 => Listed::Entry(left, Reader::node(k).0),
+        1 => Listed::Entry(right, Reader::node(k).0),
+        _ => Listed::Past,
+    }
+}
+
+// Incidence j of what has a single one.
+fn only_incidence(slot: usize, entry: u64, j: usize) -> Listed
+    ensures { λ r. ⌜ r ≡ listedAt (item slot entry ∷ []) j ⌝ }
+{
+    if j == 0 {
+        Listed::Entry(slot, entry)
+    } else {
+        Listed::Past
+    }
+}
+
+// Incidence j of node k.
+fn node_incidence(counts: Counts, nodes: &[u32], operands: &[u32], k: usize, j: usize) -> Listed
+    requires { ⌜ (k < counts .nodes) × Limited counts × NodeTables counts (now nodes) (now operands) ⌝ }
+    ensures { λ r. ⌜ r ≡ listedAt (nodeItems (counts .nodes) (now (operands .entry)) k (nodeAt (now (nodes .entry)) k)) j ⌝ }
+{
+    match theory::view(nodes, k) {
+        Node::Atom(a) => only_incidence(counts.nodes + 1 + a, k as u64, j),
+        Node::False => Listed::Past,
+        Node::Implies(left, right) => implies_incidence(k, left, right, j),
+        Node::And(s, c) => operand_incidence(operands, k, s, c, j),
+        Node::Or(s, c) => operand_incidence(operands, k, s, c, j),
+        Node::Unknown => Listed::Past,
+    }
+}
+
+// Incidence j of producer i.
+fn producer_incidence(producers: &[u32], i: usize, j: usize) -> Listed
+    requires { ⌜ (4 * i + 1 < length (now producers)) × (i < 2 ^ 60) ⌝ }
+    ensures { λ r. ⌜ r ≡ listedAt (producerItems (now (producers .entry)) i) j ⌝ }
+{
+    let body = words::word(producers, 4 * i + 1);
+    if body == 0 {
+        Listed::Past
+    } else {
+        only_incidence(body - 1, Reader::producer(i).0, j)
+    }
+}
+
+// Incidence j of root position i.
+fn root_incidence(roots: &[u32], i: usize, j: usize) -> Listed
+    requires { ⌜ (i < length (now roots)) × (i < 2 ^ 62) ⌝ }
+    ensures { λ r. ⌜ r ≡ listedAt (rootItems (now (roots .entry)) i) j ⌝ }
+{
+    only_incidence(words::word(roots, i), Reader::root(i).0, j)
+}
+
+// Incidence j of number u: nodes, then p producers, then root positions.
+fn unit_incidence(
+    counts: Counts,
+    nodes: &[u32],
+    operands: &[u32],
+    roots: &[u32],
+    producers: &[u32],
+    p: usize,
+    u: usize,
+    j: usize,
+) -> Listed
+    requires { ⌜ Planned counts (now nodes) (now operands) (now roots) (now producers) p × (u < units counts p) ⌝ }
+    ensures { λ r. ⌜ r ≡ listedAt (unitItems counts (now (nodes .entry)) (now (operands .entry)) (now (roots .entry)) (now (producers .entry)) p u) j ⌝ }
+{
+    let n = counts.nodes;
+    if u < n {
+        return node_incidence(counts, nodes, operands, u, j);
+    }
+    if u < n + p {
+        return producer_incidence(producers, u - n, j);
+    }
+    root_incidence(roots, u - (n + p), j)
+}
+
+// The next incidence in order: nodes, then p producers, then root positions.
+fn next_incidence(
+    counts: Counts,
+    nodes: &[u32],
+    operands: &[u32],
+    roots: &[u32],
+    producers: &[u32],
+    p: usize,
+    cursor: Cursor,
+) -> Incidence
+    requires { ⌜ Planned counts (now nodes) (now operands) (now roots) (now producers) p × At counts (now nodes) (now operands) (now roots) (now producers) p (cursor .unit) (cursor .index) ⌝ }
+    ensures { λ r. ⌜ Answers counts (now (nodes .entry)) (now (operands .entry)) (now (roots .entry)) (now (producers .entry)) p (cursor .unit) (cursor .index) r ⌝ }
+{
+    let end = counts.nodes + p + counts.roots;
+    let mut unit = cursor.unit;
+    let mut index = cursor.index;
+    while unit < end {
+        let listed = unit_incidence(counts, nodes, operands, roots, producers, p, unit, index);
+        if let Listed::Entry(slot, entry) = listed {
+            return Incidence::Next(
+                slot,
+                entry,
+                Cursor {
+                    unit,
+                    index: index + 1,
+                },
+            );
+        }
+        unit += 1;
+        index = 0;
+    }
+    Incidence::Done
 }
