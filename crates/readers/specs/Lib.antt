@@ -5,3 +5,5 @@ pub mod Incidences
 pub mod Readers
 pub mod Planned
 pub mod Cursor
+pub mod LaidLaws
+pub mod Placement
