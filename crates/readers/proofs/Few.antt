@@ -15,9 +15,12 @@ use Rattle.theory.specs.declared.Counts.{Counts}
 use Rattle.theory.specs.declared.Node.{Node}
 use Rattle.theory.specs.declared.Node.the-variants.{Atom, False, Implies, And, Or, Unknown}
 use Rattle.readers.specs.Joined.{joined, joined-more}
-use Rattle.readers.specs.Incidences.{Item, operandItems, nodeItems, bodyItems, producerItems, rootItems, incidences}
+use Rattle.readers.specs.Incidences.{Item, operandItems, nodeItems, bodyItems, producerItems, rootItems, incidences, entriesOf}
 use Rattle.readers.specs.Planned.{Planned}
 use Rattle.readers.specs.Cursor.{unitItems, units}
+use Rattle.readers.specs.Laid.{startOf}
+use Rattle.readers.specs.Readers.{slots, readerWords}
+use Rattle.readers.proofs.Placement.{lists-few}
 use Rattle.readers.proofs.Steps.{length-items}
 
 -- a list of at most one for each number
@@ -111,3 +114,11 @@ module _ (t : Counts) (nodes operands roots producers : List ℕ) (p : ℕ) (pla
           )
       go false e true = omega (arith, producer-few producers (u - t .nodes))
       go false e false = omega (arith, root-few roots (u - (t .nodes + p)))
+
+  -- the lent table has room for all lists
+  pub lists-room : startOf (λ s. entriesOf s (incidences t nodes operands roots producers p)) (slots t) (slots t) ≤ readerWords t
+  unfolding startOf
+  lists-room = omega (arith, lists-few (incidences t nodes operands roots producers p) (slots t), incidences-few)
+
+  pub table-room : (long : ℕ) → readerWords t ≤ long → startOf (λ s. entriesOf s (incidences t nodes operands roots producers p)) (slots t) (slots t) ≤ long
+  table-room long h = omega (arith, lists-room)

@@ -1,3 +1,4 @@
 pub mod Steps
 pub mod Few
 pub mod Placement
+pub mod Walk

@@ -8,14 +8,15 @@ use mathlib.Core.Logic.{⊎-elim}
 use mathlib.Core.Bool.{Bool, true, false, cond}
 use mathlib.Core.List.{List, [], _∷_, _++_}
 use lib.Dec.{eqb}
-use lib.ListN.{length, getD, set, drop, length-set, length-drop}
+use lib.ListN.{length, getD, set, drop, length-set, length-drop, length-append}
 use lib.Seq.{getD-set-same, getD-set-other, getD-drop, drop-set-lt, drop-drop}
 use borrow.Author.Tests.{eqb-true, eq-eqb, ne-eqb}
 use Rattle.base.specs.Tests.{equal-or, below-or}
+use Rattle.readers.specs.Joined.{joined, joined-agree, joined-more, joined-none}
 use Rattle.readers.specs.Laid.{startOf, laid}
 use Rattle.readers.specs.LaidLaws.{start-zero, start-more, start-rises, start-least, laid-is}
 use Rattle.readers.specs.Incidences.{Item, item, entriesOf}
-use Rattle.readers.specs.Placement.{Head, total, Counted, Counting, Summed, Started, Filling, Placing}
+use Rattle.readers.specs.Placement.{Head, total, Zero, Counted, Counting, Summed, Started, Filling, Placing, behindLists}
 
 -- ---- entries of a list
 
@@ -35,6 +36,39 @@ entries-few s (x ∷ xs) = go (eqb (x .slot) s) (entries-few s xs)
     go : (b : Bool) → length (entriesOf s xs) ≤ length xs → length (cond b (x .entry ∷ entriesOf s xs) (entriesOf s xs)) ≤ suc (length xs)
     go true h = omega arith
     go false h = omega arith
+
+-- an item more is an entry more, of one list alone
+one-more : (x : Item) (xs : List Item) (n : ℕ) → length (joined (λ r. entriesOf r (x ∷ xs)) 0 n) ≤ suc (length (joined (λ r. entriesOf r xs) 0 n))
+unfolding joined
+one-more x xs zero = omega arith
+one-more x xs (suc n) = ⊎-elim here (there (one-more x xs n)) (equal-or n (x .slot))
+  where
+    same : n ≤ x .slot → joined (λ r. entriesOf r (x ∷ xs)) 0 n ≡ joined (λ r. entriesOf r xs) 0 n
+    same l = joined-agree (λ r. entriesOf r (x ∷ xs)) (λ r. entriesOf r xs) 0 n (λ k a b. entries-other k (x .slot) (x .entry) xs (λ e. omega arith))
+
+    grown : (ys : List Item) → length (joined (λ r. entriesOf r ys) 0 (suc n)) ≡ length (joined (λ r. entriesOf r ys) 0 n) + length (entriesOf n ys)
+    grown ys = ap length (joined-more (λ r. entriesOf r ys) n) ∙ length-append (joined (λ r. entriesOf r ys) 0 n) (entriesOf n ys)
+
+    here : n ≡ x .slot → length (joined (λ r. entriesOf r (x ∷ xs)) 0 (suc n)) ≤ suc (length (joined (λ r. entriesOf r xs) 0 (suc n)))
+    here e =
+        omega (
+          arith,
+          grown (x ∷ xs),
+          grown xs,
+          ap length (same (omega arith)),
+          ap (λ s. length (entriesOf s (x ∷ xs))) e,
+          ap length (entries-here (x .slot) (x .entry) xs),
+          ap (λ s. length (entriesOf s xs)) e,
+        )
+
+    there : length (joined (λ r. entriesOf r (x ∷ xs)) 0 n) ≤ suc (length (joined (λ r. entriesOf r xs) 0 n)) → (n ≡ x .slot → ⊥)
+        → length (joined (λ r. entriesOf r (x ∷ xs)) 0 (suc n)) ≤ suc (length (joined (λ r. entriesOf r xs) 0 (suc n)))
+    there ih ne = omega (arith, grown (x ∷ xs), grown xs, ap length (entries-other n (x .slot) (x .entry) xs ne))
+
+pub lists-few : (xs : List Item) (n : ℕ) → length (joined (λ r. entriesOf r xs) 0 n) ≤ length xs
+unfolding entriesOf
+lists-few [] n = omega (arith, ap length (joined-none (λ r. entriesOf r []) 0 n (λ k a b. refl)))
+lists-few (x ∷ xs) n = omega (arith, one-more x xs n, lists-few xs n)
 
 -- ---- the words of the lists
 
@@ -72,6 +106,9 @@ module _ (n b : ℕ) (P Q : ℕ → ℕ → Type 0) (before words : List ℕ) wh
 pub head-after : (n b : ℕ) (P Q : ℕ → ℕ → Type 0) (xs ys zs : List ℕ) → Head n b P xs ys → Head n b Q ys zs → Head n b Q xs zs
 head-after n b P Q xs ys zs h k = record { first = k .first; each = k .each; behind = k .behind ∙ h .behind; long = k .long ∙ h .long }
 
+pub head-self : (n b : ℕ) (P : ℕ → ℕ → Type 0) (xs ys : List ℕ) → Head n b P xs ys → Head n b P ys ys
+head-self n b P xs ys h = record { first = h .first; each = h .each; behind = refl; long = refl }
+
 -- ---- clearing
 
 pub clear-none : (n : ℕ) (words : List ℕ) → n + 1 ≤ length words → Head n (n + 1) (λ s x. s < 0 → x ≡ 0) words (set words 0 (n + 1))
@@ -89,6 +126,13 @@ clear-more n i before words l room h =
     head-set n (n + 1) _ _ before words i 0 l (omega arith) room h (λ _. refl) (λ r x ne p m. p (omega arith))
 
 -- ---- counting
+
+pub count-none : (n : ℕ) (all left : List Item) (before words : List ℕ) → left ≡ all → Head n (n + 1) Zero before words → Head n (n + 1) (Counting all left) before words
+count-none n all left before words q = head-map n (n + 1) _ _ before words (λ s x l z. omega (arith, ap (λ xs. length (entriesOf s xs)) q))
+
+pub count-done : (n : ℕ) (all left : List Item) (before words : List ℕ) → left ≡ [] → Head n (n + 1) (Counting all left) before words → Head n (n + 1) (Counted all) before words
+unfolding entriesOf
+count-done n all left before words q = head-map n (n + 1) _ _ before words (λ s x l z. omega (arith, ap (λ xs. length (entriesOf s xs)) q))
 
 pub count-more : (n : ℕ) (all left rest : List Item) (before words : List ℕ) (s e : ℕ) → left ≡ item s e ∷ rest → s < n → n + 1 ≤ length before
     → Head n (n + 1) (Counting all left) before words → Head n (n + 1) (Counting all rest) before (set words (s + 1) (getD words (s + 1) 0 + 1))
@@ -117,6 +161,31 @@ total-rises words i (suc k) = omega (arith, total-rises words i k, ap (total wor
     suc-more : (i k : ℕ) → i + suc k ≡ suc (i + k)
     suc-more i k = omega arith
 
+pub total-least : (words : List ℕ) (n i : ℕ) → i < n → total words i + getD words (i + 1) 0 ≤ total words n
+total-least words n i l =
+    let e : i + 1 + (n - (i + 1)) ≡ n = omega arith in
+    omega (arith, total-more words i, total-rises words (i + 1) (n - (i + 1)), ap (total words) e)
+
+pub sum-start : (n : ℕ) (words : List ℕ) → Summed words n 0 (n + 1)
+unfolding total
+sum-start n words = omega arith
+
+pub sum-next : (n i : ℕ) (words : List ℕ) (x size : ℕ) → Summed words n i x → size ≡ getD words (i + 1) 0 → Summed words n (i + 1) (x + size)
+sum-next n i words x size h e = omega (arith, total-more words i)
+
+-- the words of lists below i are summed, the others still count
+abbrev pub Summing : List ℕ → ℕ → ℕ → ℕ → ℕ → Type 0
+Summing old n i s x = (s < i → Summed old n s x) × (i ≤ s → x ≡ getD old (s + 1) 0)
+
+pub sum-none : (n : ℕ) (old : List ℕ) → getD old 0 0 ≡ n + 1 → Head n (n + 1) (Summing old n 0) old old
+sum-none n old h = record { first = h; each = λ s l. (λ m. absurd (omega arith), λ _. refl); behind = refl; long = refl }
+
+pub sum-more : (n i : ℕ) (old words : List ℕ) (v : ℕ) → i < n → n + 1 ≤ length old → Head n (n + 1) (Summing old n i) old words → Summed old n i v
+    → Head n (n + 1) (Summing old n (i + 1)) old (set words (i + 1) v)
+sum-more n i old words v l room h e =
+    head-set n (n + 1) _ _ old words i v l (omega arith) room h (λ _. e, λ m. absurd (omega arith))
+    (λ r x ne q. (λ m. q .0 (omega arith), λ m. q .1 (omega arith)))
+
 -- words that count are summed to where the lists begin
 pub total-start : (all : List Item) (n : ℕ) (words : List ℕ) → ((s : ℕ) → s < n → Counted all s (getD words (s + 1) 0)) → (s : ℕ) → s ≤ n
     → n + 1 + total words s ≡ startOf (λ r. entriesOf r all) n s
@@ -137,17 +206,17 @@ module _ (all : List Item) (n : ℕ) where
   abbrev start : ℕ → ℕ
   start s = startOf (λ r. entriesOf r all) n s
 
-  pub place-none : (words : List ℕ) → Head n (n + 1) (Started all n) words words → Placing all all n words words
-  place-none words h =
+  pub place-none : (left : List Item) (words : List ℕ) → left ≡ all → Head n (n + 1) (Started all n) words words → Placing all left n words words
+  place-none left words q h =
       record {
         head = record { first = h .first; each = λ s l. first s _ (h .each s l); behind = refl; long = refl };
         placed = λ s j l m. absurd (omega (arith, h .each s l));
       }
     where
-      first : (s x : ℕ) → Started all n s x → Filling all all n s x
+      first : (s x : ℕ) → Started all n s x → Filling all left n s x
       first s x e =
           let z : x - start s ≡ 0 = omega arith in
-          record { low = omega arith; high = omega (arith, start-more (λ r. entriesOf r all) n s); rest = ap (λ k. drop k (entriesOf s all)) z }
+          record { low = omega arith; high = omega (arith, start-more (λ r. entriesOf r all) n s); rest = ap (λ k. drop k (entriesOf s all)) z ∙ ap (entriesOf s) (sym q) }
 
   module _ (left rest : List Item) (before words : List ℕ) (s e : ℕ) (q : left ≡ item s e ∷ rest) (l : s < n)
       (room : start n ≤ length before) (h : Placing all left n before words) where
@@ -235,15 +304,16 @@ module _ (all : List Item) (n : ℕ) where
             rw same (same-list j here-m)
 
   -- nothing left: the table is laid
-  pub place-done : (before words : List ℕ) → start n ≤ length before → Placing all [] n before words
-      → words ≡ laid (λ r. entriesOf r all) n ++ drop (start n) before
-  place-done before words room h =
+  pub place-done : (left : List Item) (before words : List ℕ) → left ≡ [] → start n ≤ length before → Placing all left n before words
+      → words ≡ behindLists all n before
+  unfolding behindLists
+  place-done left before words q room h =
       laid-is (λ r. entriesOf r all) n words (omega (arith, h .head .long)) starts lists ∙ ap (λ r. laid (λ r. entriesOf r all) n ++ r) (h .head .behind)
     where
       full : (s : ℕ) → s < n → getD words (s + 1) 0 ≡ start (s + 1)
       full s l =
           let f = h .head .each s l in
-          let none : drop (getD words (s + 1) 0 - start s) (entriesOf s all) ≡ [] = f .rest ∙ (unfold entriesOf in refl) in
+          let none : drop (getD words (s + 1) 0 - start s) (entriesOf s all) ≡ [] = f .rest ∙ ap (entriesOf s) q ∙ (unfold entriesOf in refl) in
           omega (arith, ap length none, length-drop (getD words (s + 1) 0 - start s) (entriesOf s all), f .low, f .high, start-more (λ r. entriesOf r all) n s)
 
       starts : (s : ℕ) → s ≤ n → getD words s 0 ≡ start s

@@ -2,9 +2,9 @@
 -- Assumes nothing.
 use Prim.Native.Nat.{ℕ, zero, suc, _+_, _-_, _<_, _≤_}
 use mathlib.Core.Path.{_≡_}
-use mathlib.Core.List.{List}
+use mathlib.Core.List.{List, _++_}
 use lib.ListN.{length, getD, drop}
-use Rattle.readers.specs.Laid.{startOf}
+use Rattle.readers.specs.Laid.{startOf, laid}
 use Rattle.readers.specs.Incidences.{Item, entriesOf}
 
 -- the first n + 1 words: where entries begin, and a word for each list of which P holds; from word b on nothing is altered
@@ -46,3 +46,7 @@ pub record Placing (all left : List Item) (n : ℕ) (before words : List ℕ) : 
   pub head : Head n (startOf (λ r. entriesOf r all) n n) (Filling all left n) before words
   pub placed : (s j : ℕ) → s < n → startOf (λ r. entriesOf r all) n s + j < getD words (s + 1) 0
       → getD words (startOf (λ r. entriesOf r all) n s + j) 0 ≡ getD (entriesOf s all) j 0
+
+-- every list laid whole, and what was behind them
+unfoldable pub behindLists : List Item → ℕ → List ℕ → List ℕ
+behindLists all n words = laid (λ r. entriesOf r all) n ++ drop (startOf (λ r. entriesOf r all) n n) words

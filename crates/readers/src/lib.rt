@@ -7,6 +7,8 @@ ghost use Rattle.readers.specs.Reader.{nodeReader, producerReader, rootR
 ghost use Rattle.readers.specs.Incidences.{item, operandItems, nodeItems, producerItems, rootItems, incidences};
 ghost use Rattle.readers.specs.Cursor.{listedAt, unitItems, units, restOf, At, Answers};
 ghost use Rattle.readers.specs.Planned.{Planned};
+ghost use Rattle.readers.specs.Placement.{Head, total, Zero, Counted, Summed, Started, behindLists};
+ghost use Rattle.readers.specs.Readers.{slots, listOf, readerTable, readerWords};
 ghost use Rattle.theory.specs.Node.{nodeAt, span};
 ghost use Rattle.theory.specs.Limits.{Limited};
 ghost use Rattle.theory.specs.WellFormed.{NodeTables};
@@ -207,4 +209,88 @@ fn next_incidence(
         index = 0;
     }
     Incidence::Done
+}
+
+// The words of n lists begin: where entries begin, then 0 for each list.
+fn clear(table: &mut [u64], n: usize)
+    requires { ⌜ n + 1 ≤ length (now table) ⌝ }
+    ensures { λ _. ⌜ Head n (n + 1) Zero (now (table .entry)) (now (table .exit)) ⌝ }
+{
+    table[0] = (n + 1) as u64;
+    let mut i = 0;
+    while i < n {
+        table[i + 1] = 0;
+        i += 1;
+    }
+}
+
+// Each list's word counts its entries: the first pass over the incidences.
+fn count(
+    counts: Counts,
+    nodes: &[u32],
+    operands: &[u32],
+    roots: &[u32],
+    producers: &[u32],
+    p: usize,
+    table: &mut [u64],
+)
+    requires { ⌜ Planned counts (now nodes) (now operands) (now roots) (now producers) p × (slots counts + 1 ≤ length (now table)) × Head (slots counts) (slots counts + 1) Zero (now table) (now table) ⌝ }
+    ensures { λ _. ⌜ Head (slots counts) (slots counts + 1) (Counted (incidences counts (now (nodes .entry)) (now (operands .entry)) (now (roots .entry)) (now (producers .entry)) p)) (now (table .entry)) (now (table .exit)) ⌝ }
+{
+    let mut cursor = Cursor {
+        unit: 0,
+        index: 0,
+    };
+    loop {
+        let step = next_incidence(counts, nodes, operands, roots, producers, p, cursor);
+        let Incidence::Next(slot, _, next) = step else {
+            return;
+        };
+        table[slot + 1] = table[slot + 1] + 1;
+        cursor = next;
+    }
+}
+
+// Counts become starts: a list's word is the sum of those before it, from where entries begin.
+fn sum(table: &mut [u64], n: usize)
+    requires { ⌜ (n + 1 ≤ length (now table)) × (n + 1 + total (now table) n < 2 ^ 62) × (getD (now table) 0 0 ≡ n + 1) ⌝ }
+    ensures { λ _. ⌜ Head n (n + 1) (Summed (now (table .entry)) n) (now (table .entry)) (now (table .exit)) ⌝ }
+{
+    let mut start = n + 1;
+    let mut i = 0;
+    while i < n {
+        let size = words::word64(table, i + 1);
+        table[i + 1] = start as u64;
+        start = start + size;
+        i += 1;
+    }
+}
+
+// Each entry goes where its list goes on: the second pass over the incidences.
+fn place(
+    counts: Counts,
+    nodes: &[u32],
+    operands: &[u32],
+    roots: &[u32],
+    producers: &[u32],
+    p: usize,
+    table: &mut [u64],
+)
+    requires { ⌜ Planned counts (now nodes) (now operands) (now roots) (now producers) p × (readerWords counts ≤ length (now table)) × Head (slots counts) (slots counts + 1) (Started (incidences counts (now nodes) (now operands) (now roots) (now producers) p) (slots counts)) (now table) (now table) ⌝ }
+    ensures { λ _. ⌜ now (table .exit) ≡ behindLists (incidences counts (now (nodes .entry)) (now (operands .entry)) (now (roots .entry)) (now (producers .entry)) p) (slots counts) (now (table .entry)) ⌝ }
+{
+    let mut cursor = Cursor {
+        unit: 0,
+        index: 0,
+    };
+    loop {
+        let step = next_incidence(counts, nodes, operands, roots, producers, p, cursor);
+        let Incidence::Next(slot, entry, next) = step else {
+            return;
+        };
+        let at = words::word64(table, slot + 1);
+        table[at] = entry;
+        table[slot + 1] = (at + 1) as u64;
+        cursor = next;
+    }
 }
