@@ -2,3 +2,4 @@ pub mod Steps
 pub mod Few
 pub mod Placement
 pub mod Walk
+pub mod Readers
