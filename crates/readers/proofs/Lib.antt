@@ -3,3 +3,4 @@ pub mod Few
 pub mod Placement
 pub mod Walk
 pub mod Readers
+pub mod Table

@@ -6,11 +6,15 @@ use native.Mathlib.Numerals.{add-one}
 use native.Mathlib.Omega.{arith}
 use native.Mathlib.Decide.{le-ind}
 use mathlib.Core.Path.{_≡_, refl, ap, ap₂, sym, _∙_}
+use mathlib.Core.Bool.{Bool, true, _&&_}
 use mathlib.Core.List.{List, [], _∷_, _++_, append-assoc}
+use lib.Dec.{leb}
 use lib.ListN.{length, getD, take, drop, length-append, length-drop, take-append-drop, List·getD-append}
 use lib.Seq.{take-add, take-at, drop-at, ext-getD, length-take-le, getD-take, getD-drop, drop-append-add, take-append-seam}
-use Rattle.readers.specs.Joined.{joined, joined-agree, joined-last, single, length-singles, getD-singles}
-use Rattle.readers.specs.Laid.{startOf, laid, part}
+use borrow.Author.Tests.{leb-true, le-leb}
+use Rattle.base.specs.Tests.{both, both-left, both-right}
+use Rattle.readers.specs.Joined.{joined, joined-agree, joined-last, joined-split, joined-first, single, length-singles, getD-singles}
+use Rattle.readers.specs.Laid.{startOf, laid, part, listAt, InOrder, inOrder}
 
 module _ (f : ℕ → List ℕ) (n : ℕ) where
   abbrev start : ℕ → ℕ
@@ -34,9 +38,13 @@ module _ (f : ℕ → List ℕ) (n : ℕ) where
   unfolding startOf
   start-least s = omega arith
 
+  front-length : (s : ℕ) → length (joined (single start) 0 (n + 1) ++ joined f 0 s) ≡ start s
+  unfolding startOf
+  front-length s = omega (arith, length-append (joined (single (startOf f n)) 0 (n + 1)) (joined f 0 s), length-singles (startOf f n) 0 (n + 1))
+
   pub length-laid : length (laid f n) ≡ start n
-  unfolding laid startOf
-  length-laid = omega (arith, length-append (joined (single (startOf f n)) 0 (n + 1)) (joined f 0 n), length-singles (startOf f n) 0 (n + 1))
+  unfolding laid
+  length-laid = front-length n
 
   pub start-at : (s : ℕ) → s ≤ n → getD (laid f n) s 0 ≡ start s
   unfolding laid
@@ -83,6 +91,66 @@ module _ (f : ℕ → List ℕ) (n : ℕ) where
     pub laid-is : words ≡ laid f n ++ drop (start n) words
     unfolding laid
     laid-is = sym (take-append-drop (start n) words) ∙ ap (λ r. r ++ drop (start n) words) (front-is n (omega arith))
+
+  -- list s of the table laid, whatever is behind it
+  laid-split : (s : ℕ) (rest : List ℕ) → s < n → laid f n ++ rest ≡ (joined (single start) 0 (n + 1) ++ joined f 0 s) ++ (f s ++ (joined f (s + 1) (n - (s + 1)) ++ rest))
+  unfolding laid
+  laid-split s rest l =
+      let e : n ≡ s + (n - s) = omega arith in
+      let lists : joined f 0 n ≡ joined f 0 s ++ (f s ++ joined f (s + 1) (n - (s + 1))) =
+      ap (joined f 0) e ∙ joined-split f 0 s (n - s) ∙ ap (λ k. joined f 0 s ++ joined f k (n - s)) (zero-add s) ∙ ap (λ r. joined f 0 s ++ r) (joined-first f s n l) in
+      ap (λ r. (joined (single start) 0 (n + 1) ++ r) ++ rest) lists ∙ simp append-assoc
+
+  module _ (words rest : List ℕ) (q : words ≡ laid f n ++ rest) where
+    pub start-there : (s : ℕ) → s ≤ n → getD words s 0 ≡ start s
+    start-there s h =
+        ap (λ xs. getD xs s 0) q ∙ List·getD-append (laid f n) rest 0 s (omega (arith, length-laid, start-least n)) ∙ start-at s h
+
+    pub list-there : (s : ℕ) → s < n → listAt words s ≡ f s
+    unfolding listAt
+    list-there s l =
+        rw (start-there s (omega arith), start-there (s + 1) (omega arith), size, q, laid-split s rest l, drop-at (joined (single start) 0 (n + 1) ++ joined f 0 s) (f s ++ (joined f (s + 1) (n - (s + 1)) ++ rest)) (start s) front)
+        (take-append-seam (f s) (joined f (s + 1) (n - (s + 1)) ++ rest))
+      where
+        size : start (s + 1) - start s ≡ length (f s)
+        size = omega (arith, start-more s)
+
+        front : length (joined (single start) 0 (n + 1) ++ joined f 0 s) ≡ start s
+        front = front-length s
+
+    pub in-order-there : (s : ℕ) → s < n → InOrder words (start n) s
+    in-order-there s l =
+        record {
+          rising = omega (arith, start-there s (omega arith), start-there (s + 1) (omega arith), start-more s);
+          within = omega (arith, start-there (s + 1) (omega arith), start-rises s n l, start-more s);
+        }
+
+-- the test
+pub in-order-true : (words : List ℕ) (listed s : ℕ) → inOrder words listed s ≡ true → InOrder words listed s
+unfolding inOrder
+in-order-true words listed s e =
+    record {
+      rising = leb-true _ _ (both-left (leb (getD words s 0) (getD words (s + 1) 0)) (leb (getD words (s + 1) 0) listed) e);
+      within = leb-true _ _ (both-right (leb (getD words s 0) (getD words (s + 1) 0)) (leb (getD words (s + 1) 0) listed) e);
+    }
+
+pub true-in-order : (words : List ℕ) (listed s : ℕ) → InOrder words listed s → inOrder words listed s ≡ true
+unfolding inOrder
+true-in-order words listed s h = both (le-leb _ _ (h .rising)) (le-leb _ _ (h .within))
+
+-- the two starts at hand
+module _ (words : List ℕ) (s start end : ℕ) (p : start ≡ getD words s 0) (q : end ≡ getD words (s + 1) 0) where
+  pub order-read : (listed : ℕ) (r : Bool) → r ≡ (leb start end && leb end listed) → r ≡ inOrder words listed s
+  unfolding inOrder
+  order-read listed r e = rw (← p, ← q) e
+
+  pub list-read : (xs : List ℕ) → xs ≡ part words start end → xs ≡ listAt words s
+  unfolding listAt
+  list-read xs e = rw (← p, ← q) e
+
+-- what is within some words is within more
+pub in-order-more : (words : List ℕ) (a b s : ℕ) → a ≤ b → InOrder words a s → InOrder words b s
+in-order-more words a b s l h = record { rising = h .rising; within = omega (arith, h .within) }
 
 -- lists that agree are laid alike
 pub laid-agree : (f g : ℕ → List ℕ) (n : ℕ) → ((s : ℕ) → s < n → f s ≡ g s) → laid f n ≡ laid g n

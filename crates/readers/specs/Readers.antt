@@ -4,7 +4,7 @@ use Prim.Native.Nat.{ℕ, zero, suc, _+_, _-_, _*_}
 use mathlib.Core.Bool.{Bool, true, false, cond}
 use mathlib.Core.List.{List, [], _∷_, _++_, map}
 use lib.Dec.{eqb, ltb}
-use lib.ListN.{getD, replicate}
+use lib.ListN.{length, getD, drop, replicate}
 use Rattle.base.specs.Places.{places}
 use Rattle.theory.specs.Node.{nodeAt, operandsOf}
 use Rattle.theory.specs.declared.Counts.{Counts}
@@ -59,3 +59,8 @@ readerTable t nodes operands roots producers p = laid (listOf t nodes operands r
 -- as many words as lent buffer 6 must have
 abbrev pub readerWords : Counts → ℕ
 readerWords t = 2 + t .atoms + 4 * t .nodes + t .operands + 2 * t .roots
+
+-- a lent table with these words at its front, and what was behind them
+unfoldable pub built : Counts → List ℕ → List ℕ → List ℕ → List ℕ → ℕ → List ℕ → List ℕ
+built t nodes operands roots producers p words =
+    readerTable t nodes operands roots producers p ++ drop (length (readerTable t nodes operands roots producers p)) words

@@ -4,11 +4,12 @@ ghost use mathlib.Core.List.{[], _∷_, _++_};
 ghost use Prim.Native.Nat.{ℕ, _+_, _-_, _*_, _^_, _<_, _≤_};
 ghost use lib.ListN.{length, getD, drop};
 ghost use Rattle.readers.specs.Reader.{nodeReader, producerReader, rootReader, readingOf};
-ghost use Rattle.readers.specs.Incidences.{item, operandItems, nodeItems, producerItems, rootItems, incidences};
+ghost use Rattle.readers.specs.Incidences.{item, atomSlot, operandItems, nodeItems, producerItems, rootItems, incidences};
 ghost use Rattle.readers.specs.Cursor.{listedAt, unitItems, units, restOf, At, Answers};
+ghost use Rattle.readers.specs.Laid.{listAt, InOrder, inOrder};
 ghost use Rattle.readers.specs.Planned.{Planned};
 ghost use Rattle.readers.specs.Placement.{Head, total, Zero, Counted, Summed, Started, behindLists};
-ghost use Rattle.readers.specs.Readers.{slots, listOf, readerTable, readerWords};
+ghost use Rattle.readers.specs.Readers.{slots, readerWords, built};
 ghost use Rattle.theory.specs.Node.{nodeAt, span};
 ghost use Rattle.theory.specs.Limits.{Limited};
 ghost use Rattle.theory.specs.WellFormed.{NodeTables};
@@ -293,4 +294,66 @@ fn place(
         table[slot + 1] = (at + 1) as u64;
         cursor = next;
     }
+}
+
+// The reader table into the front of table, in two passes over the incidences.
+pub fn build(
+    counts: Counts,
+    nodes: &[u32],
+    operands: &[u32],
+    roots: &[u32],
+    producers: &[u32],
+    p: usize,
+    table: &mut [u64],
+)
+    requires { ⌜ Planned counts (now nodes) (now operands) (now roots) (now producers) p × (readerWords counts ≤ length (now table)) ⌝ }
+    ensures { λ _. ⌜ now (table .exit) ≡ built counts (now (nodes .entry)) (now (operands .entry)) (now (roots .entry)) (now (producers .entry)) p (now (table .entry)) ⌝ }
+{
+    let n = counts.nodes + counts.atoms + 1;
+    clear(table, n);
+    count(counts, nodes, operands, roots, producers, p, table);
+    sum(table, n);
+    place(counts, nodes, operands, roots, producers, p, table);
+}
+
+// Whether the two starts of list s of any table are in order and within its first `listed` words.
+pub fn in_order(table: &[u64], listed: usize, s: usize) -> bool
+    requires { ⌜ s + 1 < length (now table) ⌝ }
+    ensures { λ r. ⌜ r ≡ inOrder (now (table .entry)) listed s ⌝ }
+{
+    let start = words::word64(table, s);
+    let end = words::word64(table, s + 1);
+    if start > end {
+        return false;
+    }
+    if end > listed {
+        return false;
+    }
+    true
+}
+
+// List s of any table whose two starts are in order.
+fn list_at(table: &[u64], s: usize) -> &[u64]
+    requires { ⌜ (s + 1 < length (now table)) × InOrder (now table) (length (now table)) s ⌝ }
+    ensures { λ r. ⌜ now r ≡ listAt (now (table .entry)) s ⌝ }
+{
+    let start = words::word64(table, s);
+    let end = words::word64(table, s + 1);
+    &table[start..end]
+}
+
+// The readers of a node: its part of the table.
+pub fn readers_of(table: &[u64], node: usize) -> &[u64]
+    requires { ⌜ (node + 1 < length (now table)) × InOrder (now table) (length (now table)) node ⌝ }
+    ensures { λ r. ⌜ now r ≡ listAt (now (table .entry)) node ⌝ }
+{
+    list_at(table, node)
+}
+
+// The atom nodes of an atom: its part of the table of a theory with so many nodes.
+pub fn atom_nodes_of(table: &[u64], nodes: usize, atom: usize) -> &[u64]
+    requires { ⌜ (atomSlot nodes atom + 1 < length (now table)) × InOrder (now table) (length (now table)) (atomSlot nodes atom) ⌝ }
+    ensures { λ r. ⌜ now r ≡ listAt (now (table .entry)) (atomSlot nodes atom) ⌝ }
+{
+    list_at(table, nodes + 1 + atom)
 }
