@@ -1,3 +1,4 @@
+pub mod Rest
 pub mod Steps
 pub mod Few
 pub mod Placement

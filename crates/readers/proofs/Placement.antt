@@ -16,7 +16,7 @@ use Rattle.readers.specs.Joined.{joined, joined-agree, joined-more, join
 use Rattle.readers.specs.Laid.{startOf, laid}
 use Rattle.readers.specs.LaidLaws.{start-zero, start-more, start-rises, start-least, laid-is}
 use Rattle.readers.specs.Incidences.{Item, item, entriesOf}
-use Rattle.readers.specs.Placement.{Head, total, Zero, Counted, Counting, Summed, Started, Filling, Placing, behindLists}
+use Rattle.readers.specs.Placement.{Head, total, Zero, Counted, Summed, Started, behindLists}
 
 -- ---- entries of a list
 
@@ -127,6 +127,10 @@ clear-more n i before words l room h =
 
 -- ---- counting
 
+-- x of list s, with the items `left` still to be counted
+abbrev pub Counting : List Item → List Item → ℕ → ℕ → Type 0
+Counting all left s x = x + length (entriesOf s left) ≡ length (entriesOf s all)
+
 pub count-none : (n : ℕ) (all left : List Item) (before words : List ℕ) → left ≡ all → Head n (n + 1) Zero before words → Head n (n + 1) (Counting all left) before words
 count-none n all left before words q = head-map n (n + 1) _ _ before words (λ s x l z. omega (arith, ap (λ xs. length (entriesOf s xs)) q))
 
@@ -201,6 +205,18 @@ total-start all n words h (suc s) l =
     )
 
 -- ---- placing
+
+-- x is where list s goes on, with the items `left` still to be placed
+pub record Filling (all left : List Item) (n s x : ℕ) : Type 0 where
+  pub low : startOf (λ r. entriesOf r all) n s ≤ x
+  pub high : x ≤ startOf (λ r. entriesOf r all) n (s + 1)
+  pub rest : drop (x - startOf (λ r. entriesOf r all) n s) (entriesOf s all) ≡ entriesOf s left
+
+-- every list holds its entries up to where it goes on
+pub record Placing (all left : List Item) (n : ℕ) (before words : List ℕ) : Type 0 where
+  pub head : Head n (startOf (λ r. entriesOf r all) n n) (Filling all left n) before words
+  pub placed : (s j : ℕ) → s < n → startOf (λ r. entriesOf r all) n s + j < getD words (s + 1) 0
+      → getD words (startOf (λ r. entriesOf r all) n s + j) 0 ≡ getD (entriesOf s all) j 0
 
 module _ (all : List Item) (n : ℕ) where
   abbrev start : ℕ → ℕ

@@ -1,6 +1,6 @@
--- What each exit of the functions that answer an incidence gives.
+-- What each exit of the functions that read a word or answer an incidence gives.
 -- Assumes nothing.
-use Prim.Native.Nat.{ℕ, zero, suc, _+_, _-_, _*_, _<_, _≤_}
+use Prim.Native.Nat.{ℕ, zero, suc, _+_, _-_, _*_, _/_, _%_, _^_, _<_, _≤_}
 use native.Mathlib.Omega.{arith}
 use mathlib.Core.Path.{_≡_, refl, ap, sym, _∙_}
 use mathlib.Core.List.{List, [], _∷_}
@@ -12,9 +12,12 @@ use Rattle.theory.specs.Spans.{length-span}
 use Rattle.theory.specs.declared.Counts.{Counts}
 use Rattle.theory.specs.declared.Node.{Node}
 use Rattle.readers.specs.Incidences.{Item, item, operandItems, nodeItems, bodyItems, producerItems, rootItems}
-use Rattle.readers.specs.Reader.{nodeReader, producerReader, rootReader}
-use Rattle.readers.specs.Cursor.{listedAt, end-past, unitItems}
+use Rattle.readers.specs.Reader.{nodeReader, byTag, readingOf}
+use Rattle.readers.specs.Cursor.{listedAt, unitItems}
+use Rattle.readers.specs.declared.Reading.{Reading}
+use Rattle.readers.specs.declared.Reading.the-variants.{Unknown}
 use Rattle.readers.specs.declared.Listed.{Listed}
+use Rattle.readers.proofs.Rest.{end-past}
 use Rattle.readers.specs.declared.Listed.the-variants.{Entry, Past}
 
 pub only-entry : (s e j : ℕ) → j ≡ 0 → Entry s e ≡ listedAt (item s e ∷ []) j
@@ -73,3 +76,15 @@ module _ (t : Counts) (nodes operands roots producers : List ℕ) (p u j : ℕ) 
 pub past-none : (j : ℕ) → Past ≡ listedAt [] j
 unfolding listedAt
 past-none j = refl
+
+-- a word with the tag at hand
+pub read-as : (x tag : ℕ) (r : Reading) → x / 2 ^ 62 ≡ tag → r ≡ byTag tag (x % 2 ^ 62) → r ≡ readingOf x
+unfolding readingOf
+read-as x tag r e q = rw e q
+
+pub other-tag : (tag i : ℕ) → (tag ≡ 0 → ⊥) → (tag ≡ 2 → ⊥) → (tag ≡ 3 → ⊥) → Unknown ≡ byTag tag i
+other-tag zero i a b c = absurd (a refl)
+other-tag (suc zero) i a b c = refl
+other-tag (suc (suc zero)) i a b c = absurd (b refl)
+other-tag (suc (suc (suc zero))) i a b c = absurd (c refl)
+other-tag (suc (suc (suc (suc n)))) i a b c = refl

@@ -15,8 +15,9 @@ use Rattle.readers.specs.Joined.{joined}
 use Rattle.readers.specs.Incidences.{Item, item, operandItems, nodeItems, bodyItems, producerItems, rootItems, incidences}
 use Rattle.readers.specs.Readers.{slots}
 use Rattle.readers.specs.Planned.{Planned}
-use Rattle.readers.specs.Cursor.{restOf, At, Answers, rest-all}
+use Rattle.readers.specs.Cursor.{restOf, At, Answers}
 use Rattle.readers.specs.declared.Cursor.{Cursor}
+use Rattle.readers.proofs.Rest.{rest-all}
 use Rattle.readers.specs.declared.Incidence.{Incidence}
 use Rattle.readers.specs.declared.Incidence.the-variants.{Next, Done}
 
@@ -75,19 +76,23 @@ module _ (t : Counts) (nodes operands roots producers : List ℕ) (p : ℕ) wher
         below = rw (rest-all t nodes operands roots producers p) (all-below h);
       }
 
+  -- the incidence s, e is taken, and `next` is where the pass stands then
+  pub record Taken (u j s e : ℕ) (next : Cursor) : Type 0 where
+    pub first : restOf t nodes operands roots producers p u j ≡ item s e ∷ restOf t nodes operands roots producers p (next .unit) (next .index)
+    pub slot : s < slots t
+    pub ahead : Ahead (next .unit) (next .index)
+    pub less : length (restOf t nodes operands roots producers p (next .unit) (next .index)) < length (restOf t nodes operands roots producers p u j)
+
   module _ (u j : ℕ) (r : Incidence) (answered : Answers t nodes operands roots producers p u j r) where
-    pub ahead-done : r ≡ Done → restOf t nodes operands roots producers p u j ≡ []
-    ahead-done e = rw e at answered
+    pub done : r ≡ Done → restOf t nodes operands roots producers p u j ≡ []
+    done e = rw e at answered
 
-    module _ (s e : ℕ) (next : Cursor) (is : r ≡ Next s e next) where
-      pub ahead-next : restOf t nodes operands roots producers p u j ≡ item s e ∷ restOf t nodes operands roots producers p (next .unit) (next .index)
-      ahead-next = (rw is at answered) .0
-
-      pub ahead-slot : Ahead u j → s < slots t
-      ahead-slot a = (rw ahead-next at (a .below)) .0
-
-      pub ahead-more : Ahead u j → Ahead (next .unit) (next .index)
-      ahead-more a = record { at = (rw is at answered) .1; below = (rw ahead-next at (a .below)) .1 }
-
-      pub ahead-less : length (restOf t nodes operands roots producers p (next .unit) (next .index)) < length (restOf t nodes operands roots producers p u j)
-      ahead-less = omega (arith, ap length ahead-next)
+    pub taken : (s e : ℕ) (next : Cursor) → r ≡ Next s e next → Ahead u j → Taken u j s e next
+    taken s e next is a =
+        let f = (rw is at answered) .0 in
+        record {
+          first = f;
+          slot = (rw f at (a .below)) .0;
+          ahead = record { at = (rw is at answered) .1; below = (rw f at (a .below)) .1 };
+          less = omega (arith, ap length f);
+        }

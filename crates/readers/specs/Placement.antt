@@ -25,27 +25,11 @@ Zero s x = x ≡ 0
 abbrev pub Counted : List Item → ℕ → ℕ → Type 0
 Counted all s x = x ≡ length (entriesOf s all)
 
--- x of list s, with the items `left` still to be counted
-abbrev pub Counting : List Item → List Item → ℕ → ℕ → Type 0
-Counting all left s x = x + length (entriesOf s left) ≡ length (entriesOf s all)
-
 abbrev pub Summed : List ℕ → ℕ → ℕ → ℕ → Type 0
 Summed words n s x = x ≡ n + 1 + total words s
 
 abbrev pub Started : List Item → ℕ → ℕ → ℕ → Type 0
 Started all n s x = x ≡ startOf (λ r. entriesOf r all) n s
-
--- x is where list s goes on, with the items `left` still to be placed
-pub record Filling (all left : List Item) (n s x : ℕ) : Type 0 where
-  pub low : startOf (λ r. entriesOf r all) n s ≤ x
-  pub high : x ≤ startOf (λ r. entriesOf r all) n (s + 1)
-  pub rest : drop (x - startOf (λ r. entriesOf r all) n s) (entriesOf s all) ≡ entriesOf s left
-
--- every list holds its entries up to where it goes on
-pub record Placing (all left : List Item) (n : ℕ) (before words : List ℕ) : Type 0 where
-  pub head : Head n (startOf (λ r. entriesOf r all) n n) (Filling all left n) before words
-  pub placed : (s j : ℕ) → s < n → startOf (λ r. entriesOf r all) n s + j < getD words (s + 1) 0
-      → getD words (startOf (λ r. entriesOf r all) n s + j) 0 ≡ getD (entriesOf s all) j 0
 
 -- every list laid whole, and what was behind them
 unfoldable pub behindLists : List Item → ℕ → List ℕ → List ℕ

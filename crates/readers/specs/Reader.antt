@@ -34,15 +34,3 @@ readingOf x = byTag (x / 2 ^ 62) (x % 2 ^ 62)
 pub packed-read : (tag i : ℕ) → i < 2 ^ 62 → readingOf (packed tag i) ≡ byTag tag i
 unfolding readingOf packed
 packed-read tag i h = ap₂ byTag (digits-div tag h) (digits-mod tag h)
-
--- a word with the tag at hand
-pub read-as : (x tag : ℕ) (r : Reading) → x / 2 ^ 62 ≡ tag → r ≡ byTag tag (x % 2 ^ 62) → r ≡ readingOf x
-unfolding readingOf
-read-as x tag r e q = rw e q
-
-pub other-tag : (tag i : ℕ) → (tag ≡ 0 → ⊥) → (tag ≡ 2 → ⊥) → (tag ≡ 3 → ⊥) → Unknown ≡ byTag tag i
-other-tag zero i a b c = absurd (a refl)
-other-tag (suc zero) i a b c = refl
-other-tag (suc (suc zero)) i a b c = absurd (b refl)
-other-tag (suc (suc (suc zero))) i a b c = absurd (c refl)
-other-tag (suc (suc (suc (suc n)))) i a b c = refl

@@ -5,11 +5,12 @@ use Prim.Native.Nat.{_+_}
 use lib.ListN.{length}
 use Rattle.readers.specs.Incidences.{incidences}
 use Rattle.readers.specs.Readers.{slots}
-use Rattle.readers.specs.Cursor.{restOf, rest-all}
-use Rattle.readers.specs.Placement.{Head, Counting}
+use Rattle.readers.specs.Cursor.{restOf}
+use Rattle.readers.proofs.Rest.{rest-all}
+use Rattle.readers.specs.Placement.{Head}
 use Rattle.readers.proofs.Few.{incidences-few}
-use Rattle.readers.proofs.Walk.{Ahead, ahead-all, ahead-done, ahead-next, ahead-slot, ahead-more, ahead-less}
-use Rattle.readers.proofs.Placement.{count-none, count-more, count-room, count-done}
+use Rattle.readers.proofs.Walk.{Ahead, ahead-all, Taken, taken, done}
+use Rattle.readers.proofs.Placement.{Counting, count-none, count-more, count-room, count-done}
 use Rattle.readers.proofs.count.Statement.{statement}
 use Rattle.readers.proofs.count.Tie as tie
 use Rattle.readers.proofs.count.Reads as reads
@@ -21,6 +22,14 @@ Inv-loop counts nodes operands roots producers p table₀ cursor₀ table cursor
 
 abbrev μ-loop : tie.MeasureT-loop
 μ-loop counts nodes operands roots producers p table₀ cursor₀ table cursor = length (restOf counts nodes operands roots producers p (cursor .unit) (cursor .index))
+
+-- an incidence is taken
+took : (c : tie.After-known-told Inv-loop μ-loop) →
+    (let a = c .before .before .before .before .before .before .before .before .before .before .args in
+    let cursor = c .before .before .before .before .loop .cursor in
+    let g = c .before .step .given .0 in
+    Taken (a .counts) (a .nodes .now) (a .operands .now) (a .roots .now) (a .producers .now) (a .p) (cursor .unit) (cursor .index) (g .0) (g .1 .0) (g .1 .1 .0))
+took c = taken _ _ _ _ _ _ _ _ _ (c .before .before .before .next-incidence .ensures) _ _ _ (c .before .step .given .1) (c .before .before .before .before .loop .inv .0)
 
 -- src/lib.rt:244:5
 loop-holds : tie.Need-loop-holds Inv-loop μ-loop
@@ -44,43 +53,43 @@ same-length c = c .before .before .before .loop .inv .1 .long
 
 -- src/lib.rt:247:13
 returns : tie.Need-returns Inv-loop μ-loop
-returns c = count-done _ _ _ _ _ (ahead-done _ _ _ _ _ _ _ _ _ (c .before .before .next-incidence .ensures) (c .enum-told .given .1)) (c .before .before .before .loop .inv .1)
+returns c = count-done _ _ _ _ _ (done _ _ _ _ _ _ _ _ _ (c .before .before .next-incidence .ensures) (c .enum-told .given .1)) (c .before .before .before .loop .inv .1)
 
 -- src/lib.rt:249:33
 add-table : tie.Need-add-table Inv-loop μ-loop
-add-table c = omega (arith, ahead-slot _ _ _ _ _ _ _ _ _ (c .before .before .before .next-incidence .ensures) _ _ _ (c .before .step .given .1) (c .before .before .before .before .loop .inv .0), c .before .before .before .before .before .before .before .before .before .before .pre .0 .limited)
+add-table c = omega (arith, took c .slot, c .before .before .before .before .before .before .before .before .before .before .pre .0 .limited)
 
 -- src/lib.rt:249:27
 mul-table : tie.Need-mul-table Inv-loop μ-loop
-mul-table c = omega (arith, ahead-slot _ _ _ _ _ _ _ _ _ (c .before .before .before .next-incidence .ensures) _ _ _ (c .before .step .given .1) (c .before .before .before .before .loop .inv .0), c .before .before .before .before .before .before .before .before .before .before .pre .1, c .before .before .before .before .loop .inv .1 .long, c .before .before .before .before .before .before .before .before .before .before .good)
+mul-table c = omega (arith, took c .slot, c .before .before .before .before .before .before .before .before .before .before .pre .1, c .before .before .before .before .loop .inv .1 .long, c .before .before .before .before .before .before .before .before .before .before .good)
 
 -- src/lib.rt:249:27
 slice-read-table : tie.Need-slice-read-table Inv-loop μ-loop
-slice-read-table c = omega (arith, ahead-slot _ _ _ _ _ _ _ _ _ (c .before .before .before .before .next-incidence .ensures) _ _ _ (c .before .before .step .given .1) (c .before .before .before .before .before .loop .inv .0), c .before .before .before .before .before .before .before .before .before .before .before .pre .1, c .before .before .before .before .before .loop .inv .1 .long)
+slice-read-table c = omega (arith, took (c .before) .slot, c .before .before .before .before .before .before .before .before .before .before .before .pre .1, c .before .before .before .before .before .loop .inv .1 .long)
 
 -- src/lib.rt:249:27
 add-table-2 : tie.Need-add-table-2 Inv-loop μ-loop
-add-table-2 c = omega (arith, count-room _ _ _ _ _ _ (ahead-next _ _ _ _ _ _ _ _ _ (c .before .before .before .before .next-incidence .ensures) _ _ _ (c .before .before .step .given .1)) (c .before .before .before .before .before .loop .inv .1 .each _ (ahead-slot _ _ _ _ _ _ _ _ _ (c .before .before .before .before .next-incidence .ensures) _ _ _ (c .before .before .step .given .1) (c .before .before .before .before .before .loop .inv .0))), incidences-few _ _ _ _ _ _ (c .before .before .before .before .before .before .before .before .before .before .before .pre .0), c .before .before .before .before .before .before .before .before .before .before .before .pre .0 .limited)
+add-table-2 c = omega (arith, count-room _ _ _ _ _ _ (took (c .before) .first) (c .before .before .before .before .before .loop .inv .1 .each _ (took (c .before) .slot)), incidences-few _ _ _ _ _ _ (c .before .before .before .before .before .before .before .before .before .before .before .pre .0), c .before .before .before .before .before .before .before .before .before .before .before .pre .0 .limited)
 
 -- src/lib.rt:249:15
 add-table-3 : tie.Need-add-table-3 Inv-loop μ-loop
-add-table-3 c = omega (arith, ahead-slot _ _ _ _ _ _ _ _ _ (c .before .before .before .before .next-incidence .ensures) _ _ _ (c .before .before .step .given .1) (c .before .before .before .before .before .loop .inv .0), c .before .before .before .before .before .before .before .before .before .before .before .pre .0 .limited)
+add-table-3 c = omega (arith, took (c .before) .slot, c .before .before .before .before .before .before .before .before .before .before .before .pre .0 .limited)
 
 -- src/lib.rt:249:9
 mul-table-2 : tie.Need-mul-table-2 Inv-loop μ-loop
-mul-table-2 c = omega (arith, ahead-slot _ _ _ _ _ _ _ _ _ (c .before .before .before .before .next-incidence .ensures) _ _ _ (c .before .before .step .given .1) (c .before .before .before .before .before .loop .inv .0), c .before .before .before .before .before .before .before .before .before .before .before .pre .1, c .before .before .before .before .before .loop .inv .1 .long, c .before .before .before .before .before .before .before .before .before .before .before .good)
+mul-table-2 c = omega (arith, took (c .before) .slot, c .before .before .before .before .before .before .before .before .before .before .before .pre .1, c .before .before .before .before .before .loop .inv .1 .long, c .before .before .before .before .before .before .before .before .before .before .before .good)
 
 -- src/lib.rt:249:9
 slice-write-table : tie.Need-slice-write-table Inv-loop μ-loop
-slice-write-table c = omega (arith, ahead-slot _ _ _ _ _ _ _ _ _ (c .before .before .before .before .next-incidence .ensures) _ _ _ (c .before .before .step .given .1) (c .before .before .before .before .before .loop .inv .0), c .before .before .before .before .before .before .before .before .before .before .before .pre .1, c .before .before .before .before .before .loop .inv .1 .long)
+slice-write-table c = omega (arith, took (c .before) .slot, c .before .before .before .before .before .before .before .before .before .before .before .pre .1, c .before .before .before .before .before .loop .inv .1 .long)
 
 -- src/lib.rt:244:5
 loop-less : tie.Need-loop-less Inv-loop μ-loop
-loop-less c = ahead-less _ _ _ _ _ _ _ _ _ (c .before .before .before .before .next-incidence .ensures) _ _ _ (c .before .before .step .given .1)
+loop-less c = took (c .before) .less
 
 -- src/lib.rt:244:5
 loop-again : tie.Need-loop-again Inv-loop μ-loop
-loop-again c = (ahead-more _ _ _ _ _ _ _ _ _ (c .before .before .before .before .next-incidence .ensures) _ _ _ (c .before .before .step .given .1) (c .before .before .before .before .before .loop .inv .0), count-more _ _ _ _ _ _ _ _ (ahead-next _ _ _ _ _ _ _ _ _ (c .before .before .before .before .next-incidence .ensures) _ _ _ (c .before .before .step .given .1)) (ahead-slot _ _ _ _ _ _ _ _ _ (c .before .before .before .before .next-incidence .ensures) _ _ _ (c .before .before .step .given .1) (c .before .before .before .before .before .loop .inv .0)) (c .before .before .before .before .before .before .before .before .before .before .before .pre .1) (c .before .before .before .before .before .loop .inv .1))
+loop-again c = (took (c .before) .ahead, count-more _ _ _ _ _ _ _ _ (took (c .before) .first) (took (c .before) .slot) (c .before .before .before .before .before .before .before .before .before .before .before .pre .1) (c .before .before .before .before .before .loop .inv .1))
 
 pub count-spec : {M : Type 1} → statement M
 count-spec =

@@ -2,7 +2,8 @@ use borrow.Author.Needs.{needs}
 use native.Mathlib.Omega.{arith}
 use mathlib.Core.Path.{_≡_, refl, sym, _∙_}
 use Prim.Native.Nat.{_-_}
-use Rattle.readers.specs.Cursor.{restOf, units, At, listed-within, rest-next, rest-past, rest-done}
+use Rattle.readers.specs.Cursor.{restOf, units, At}
+use Rattle.readers.proofs.Rest.{listed-within, rest-next, rest-past, rest-done}
 use Rattle.readers.proofs.Few.{unit-few}
 use Rattle.readers.proofs.next_incidence.Statement.{statement}
 use Rattle.readers.proofs.next_incidence.Tie as tie

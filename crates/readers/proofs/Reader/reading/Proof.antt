@@ -1,5 +1,5 @@
 use mathlib.Core.Path.{refl}
-use Rattle.readers.specs.Reader.{read-as, other-tag}
+use Rattle.readers.proofs.Steps.{read-as, other-tag}
 use borrow.Author.Needs.{needs}
 use Rattle.readers.proofs.Reader.reading.Statement.{statement}
 use Rattle.readers.proofs.Reader.reading.Tie as tie
