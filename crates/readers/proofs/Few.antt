@@ -2,7 +2,7 @@
 -- Assumes nothing.
 use Prim.Native.Nat.{ℕ, zero, suc, _+_, _-_, _*_, _<_, _≤_}
 use native.Mathlib.Omega.{arith}
-use mathlib.Core.Path.{_≡_, refl, ap, sym, _∙_}
+use mathlib.Core.Path.{_≡_, refl, ap}
 use mathlib.Core.Bool.{Bool, true, false, cond}
 use mathlib.Core.List.{List, [], _∷_, _++_}
 use lib.Dec.{ltb}
@@ -10,16 +10,16 @@ use lib.ListN.{length, getD, drop, length-append, length-take}
 use borrow.Author.Tests.{ltb-true}
 use Rattle.theory.specs.Node.{nodeAt, span, operandsOf}
 use Rattle.theory.specs.Admission.{spanEnd, spanStart}
-use Rattle.theory.specs.WellFormed.{NodeFormed, NodeTables}
+use Rattle.theory.specs.WellFormed.{NodeFormed}
 use Rattle.theory.specs.declared.Counts.{Counts}
 use Rattle.theory.specs.declared.Node.{Node}
 use Rattle.theory.specs.declared.Node.the-variants.{Atom, False, Implies, And, Or, Unknown}
 use Rattle.readers.specs.Joined.{joined, joined-more}
 use Rattle.readers.specs.Incidences.{Item, operandItems, nodeItems, bodyItems, producerItems, rootItems, incidences, entriesOf}
 use Rattle.readers.specs.Planned.{Planned}
-use Rattle.readers.specs.Cursor.{unitItems, units}
+use Rattle.readers.specs.Cursor.{unitItems}
 use Rattle.readers.specs.Laid.{startOf}
-use Rattle.readers.specs.Readers.{slots, readerWords}
+use Rattle.readers.specs.ReaderTable.{slots, readerWords}
 use Rattle.readers.proofs.Placement.{lists-few}
 use Rattle.readers.proofs.Steps.{length-items}
 

@@ -10,7 +10,7 @@ use mathlib.Core.List.{List, [], _∷_, _++_}
 use lib.Dec.{eqb}
 use lib.ListN.{length, getD, set, drop, length-set, length-drop, length-append}
 use lib.Seq.{getD-set-same, getD-set-other, getD-drop, drop-set-lt, drop-drop}
-use borrow.Author.Tests.{eqb-true, eq-eqb, ne-eqb}
+use borrow.Author.Tests.{eq-eqb, ne-eqb}
 use Rattle.base.specs.Tests.{equal-or, below-or}
 use Rattle.readers.specs.Joined.{joined, joined-agree, joined-more, joined-none}
 use Rattle.readers.specs.Laid.{startOf, laid}

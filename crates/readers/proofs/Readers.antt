@@ -1,14 +1,13 @@
 -- The lists of the reader table: each is the incidences of its slot, in order, and is what the definition says.
 -- Assumes nothing.
 use Prim.Native.Nat.{ℕ, zero, suc, _+_, _-_, _*_, _<_, _≤_}
-use native.Mathlib.Numerals.{add-one}
 use native.Mathlib.Omega.{arith}
 use mathlib.Core.Path.{_≡_, refl, ap, ap₂, sym, _∙_}
 use mathlib.Core.Logic.{⊎-elim}
 use mathlib.Core.Bool.{Bool, true, false, cond}
 use mathlib.Core.List.{List, [], _∷_, _++_, map, map-id, append-nil}
-use lib.Dec.{eqb, ltb}
-use lib.ListN.{length, getD, replicate}
+use lib.Dec.{eqb}
+use lib.ListN.{getD, replicate}
 use borrow.Author.Tests.{eqb-true, eqb-false, eq-eqb, ne-eqb, lt-ltb, le-ltb}
 use Rattle.base.specs.Tests.{equal-or, below-or}
 use Rattle.base.specs.Each.{Each}
@@ -23,7 +22,9 @@ use Rattle.readers.specs.Laid.{laid}
 use Rattle.readers.specs.LaidLaws.{laid-agree}
 use Rattle.readers.specs.Reader.{nodeReader, producerReader, rootReader}
 use Rattle.readers.specs.Incidences.{Item, item, atomSlot, operandItems, nodeItems, bodyItems, producerItems, rootItems, incidences, entriesOf}
-use Rattle.readers.specs.Readers.{occurrences, readingNode, readersOf, isAtomOf, atomNodesOf, listOf, slots, readerTable}
+use Rattle.readers.specs.Readers.{occurrences, readingNode, readersOf}
+use Rattle.readers.specs.AtomNodes.{isAtomOf, atomNodesOf}
+use Rattle.readers.specs.ReaderTable.{listOf, slots, readerTable}
 use Rattle.readers.specs.Planned.{Planned}
 use Rattle.readers.proofs.Placement.{entries-here, entries-other}
 

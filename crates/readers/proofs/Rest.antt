@@ -10,7 +10,7 @@ use lib.Seq.{drop-append-le, drop-length, drop-nil}
 use borrow.Author.Tests.{lt-ltb, le-ltb}
 use Rattle.theory.specs.Node.{nodeAt}
 use Rattle.theory.specs.declared.Counts.{Counts}
-use Rattle.readers.specs.Joined.{joined, joined-agree, joined-split, joined-shift, joined-first, joined-past}
+use Rattle.readers.specs.Joined.{joined-agree, joined-split, joined-shift, joined-first, joined-past}
 use Rattle.readers.specs.Incidences.{Item, item, nodeItems, producerItems, rootItems, incidences}
 use Rattle.readers.specs.Cursor.{listedAt, unitItems, units, restOf, At as Standing}
 use Rattle.readers.specs.declared.Listed.the-variants.{Entry, Past}

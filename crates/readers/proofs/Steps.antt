@@ -7,11 +7,10 @@ use mathlib.Core.List.{List, [], _∷_}
 use lib.ListN.{length, getD, drop}
 use lib.Seq.{getD-take, getD-drop}
 use borrow.Author.Tests.{lt-ltb, le-ltb}
-use Rattle.theory.specs.Node.{nodeAt, span, operandsOf}
-use Rattle.theory.specs.Spans.{length-span}
+use Rattle.theory.specs.Node.{nodeAt, span}
 use Rattle.theory.specs.declared.Counts.{Counts}
 use Rattle.theory.specs.declared.Node.{Node}
-use Rattle.readers.specs.Incidences.{Item, item, operandItems, nodeItems, bodyItems, producerItems, rootItems}
+use Rattle.readers.specs.Incidences.{item, operandItems, nodeItems, bodyItems, producerItems, rootItems}
 use Rattle.readers.specs.Reader.{nodeReader, byTag, readingOf}
 use Rattle.readers.specs.Cursor.{listedAt, unitItems}
 use Rattle.readers.specs.declared.Reading.{Reading}

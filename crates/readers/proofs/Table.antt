@@ -11,7 +11,9 @@ use Rattle.theory.specs.declared.Counts.{Counts}
 use Rattle.readers.specs.Laid.{startOf, laid, listAt, InOrder}
 use Rattle.readers.specs.LaidLaws.{length-laid, list-there, in-order-there, in-order-more, start-least}
 use Rattle.readers.specs.Incidences.{Item, atomSlot, incidences, entriesOf}
-use Rattle.readers.specs.Readers.{readersOf, atomNodesOf, listOf, slots, readerWords, readerTable, built}
+use Rattle.readers.specs.Readers.{readersOf}
+use Rattle.readers.specs.AtomNodes.{atomNodesOf}
+use Rattle.readers.specs.ReaderTable.{listOf, slots, readerWords, readerTable, built}
 use Rattle.readers.specs.Planned.{Planned}
 use Rattle.readers.specs.Placement.{Head, total, Zero, Counted, Summed, Started, behindLists}
 use Rattle.readers.proofs.Few.{lists-room}

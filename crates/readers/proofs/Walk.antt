@@ -1,8 +1,8 @@
 -- A pass over the incidences: each turn takes the first of those ahead, and every list named is one of the table's.
 -- Assumes nothing.
-use Prim.Native.Nat.{ℕ, zero, suc, _+_, _-_, _*_, _<_, _≤_}
+use Prim.Native.Nat.{ℕ, zero, suc, _+_, _*_, _<_, _≤_}
 use native.Mathlib.Omega.{arith}
-use mathlib.Core.Path.{_≡_, refl, ap, sym, _∙_}
+use mathlib.Core.Path.{_≡_, ap}
 use mathlib.Core.List.{List, [], _∷_, _++_}
 use lib.ListN.{length, getD}
 use Rattle.base.specs.Each.{Each}
@@ -13,7 +13,7 @@ use Rattle.theory.specs.declared.Node.{Node}
 use Rattle.theory.specs.declared.Node.the-variants.{Atom, False, Implies, And, Or, Unknown}
 use Rattle.readers.specs.Joined.{joined}
 use Rattle.readers.specs.Incidences.{Item, item, operandItems, nodeItems, bodyItems, producerItems, rootItems, incidences}
-use Rattle.readers.specs.Readers.{slots}
+use Rattle.readers.specs.ReaderTable.{slots}
 use Rattle.readers.specs.Planned.{Planned}
 use Rattle.readers.specs.Cursor.{restOf, At, Answers}
 use Rattle.readers.specs.declared.Cursor.{Cursor}

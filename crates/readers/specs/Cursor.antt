@@ -10,7 +10,6 @@ use Rattle.theory.specs.Node.{nodeAt}
 use Rattle.theory.specs.declared.Counts.{Counts}
 use Rattle.readers.specs.Joined.{joined}
 use Rattle.readers.specs.Incidences.{Item, item, nodeItems, producerItems, rootItems}
-use Rattle.readers.specs.declared.Cursor.{Cursor}
 use Rattle.readers.specs.declared.Listed.{Listed}
 use Rattle.readers.specs.declared.Listed.the-variants.{Entry, Past}
 use Rattle.readers.specs.declared.Incidence.{Incidence}
@@ -51,4 +50,3 @@ module _ (t : Counts) (nodes operands roots producers : List ℕ) (p : ℕ) wher
   abbrev pub Answers : ℕ → ℕ → Incidence → Type 0
   Answers u j (Next slot entry next) = (rest u j ≡ item slot entry ∷ rest (next .unit) (next .index)) × At (next .unit) (next .index)
   Answers u j Done = rest u j ≡ []
-

@@ -1,7 +1,7 @@
 -- Laws of lists laid into one table.
 -- Assumes nothing.
 use Prim.Native.Nat.{ℕ, zero, suc, _+_, _-_, _<_, _≤_}
-use native.Mathlib.Nat.{zero-add, add-assoc}
+use native.Mathlib.Nat.{zero-add}
 use native.Mathlib.Numerals.{add-one}
 use native.Mathlib.Omega.{arith}
 use native.Mathlib.Decide.{le-ind}
@@ -10,7 +10,7 @@ use mathlib.Core.Bool.{Bool, true, _&&_}
 use mathlib.Core.List.{List, [], _∷_, _++_, append-assoc}
 use lib.Dec.{leb}
 use lib.ListN.{length, getD, take, drop, length-append, length-drop, take-append-drop, List·getD-append}
-use lib.Seq.{take-add, take-at, drop-at, ext-getD, length-take-le, getD-take, getD-drop, drop-append-add, take-append-seam}
+use lib.Seq.{take-add, drop-at, ext-getD, length-take-le, getD-take, getD-drop, take-append-seam}
 use borrow.Author.Tests.{leb-true, le-leb}
 use Rattle.base.specs.Tests.{both, both-left, both-right}
 use Rattle.readers.specs.Joined.{joined, joined-agree, joined-last, joined-split, joined-first, single, length-singles, getD-singles}

@@ -3,6 +3,8 @@ pub mod Laid
 pub mod Reader
 pub mod Incidences
 pub mod Readers
+pub mod AtomNodes
+pub mod ReaderTable
 pub mod Planned
 pub mod Cursor
 pub mod LaidLaws

@@ -1,15 +1,15 @@
 // The reader lists: who reads each node's truth. A port of tight/readers.rs.
 ghost use mathlib.Core.Path.{_≡_};
-ghost use mathlib.Core.List.{[], _∷_, _++_};
-ghost use Prim.Native.Nat.{ℕ, _+_, _-_, _*_, _^_, _<_, _≤_};
-ghost use lib.ListN.{length, getD, drop};
+ghost use mathlib.Core.List.{[], _∷_};
+ghost use Prim.Native.Nat.{_+_, _-_, _*_, _^_, _<_, _≤_};
+ghost use lib.ListN.{length, getD};
 ghost use Rattle.readers.specs.Reader.{nodeReader, producerReader, rootReader, readingOf};
 ghost use Rattle.readers.specs.Incidences.{item, atomSlot, operandItems, nodeItems, producerItems, rootItems, incidences};
-ghost use Rattle.readers.specs.Cursor.{listedAt, unitItems, units, restOf, At, Answers};
+ghost use Rattle.readers.specs.Cursor.{listedAt, unitItems, units, At, Answers};
 ghost use Rattle.readers.specs.Laid.{listAt, InOrder, inOrder};
 ghost use Rattle.readers.specs.Planned.{Planned};
 ghost use Rattle.readers.specs.Placement.{Head, total, Zero, Counted, Summed, Started, behindLists};
-ghost use Rattle.readers.specs.Readers.{slots, readerWords, built};
+ghost use Rattle.readers.specs.ReaderTable.{slots, readerWords, built};
 ghost use Rattle.theory.specs.Node.{nodeAt, span};
 ghost use Rattle.theory.specs.Limits.{Limited};
 ghost use Rattle.theory.specs.WellFormed.{NodeTables};
@@ -238,10 +238,7 @@ fn count(
     requires { ⌜ Planned counts (now nodes) (now operands) (now roots) (now producers) p × (slots counts + 1 ≤ length (now table)) × Head (slots counts) (slots counts + 1) Zero (now table) (now table) ⌝ }
     ensures { λ _. ⌜ Head (slots counts) (slots counts + 1) (Counted (incidences counts (now (nodes .entry)) (now (operands .entry)) (now (roots .entry)) (now (producers .entry)) p)) (now (table .entry)) (now (table .exit)) ⌝ }
 {
-    let mut cursor = Cursor {
-        unit: 0,
-        index: 0,
-    };
+    let mut cursor = Cursor { unit: 0, index: 0 };
     loop {
         let step = next_incidence(counts, nodes, operands, roots, producers, p, cursor);
         let Incidence::Next(slot, _, next) = step else {
@@ -280,10 +277,7 @@ fn place(
     requires { ⌜ Planned counts (now nodes) (now operands) (now roots) (now producers) p × (readerWords counts ≤ length (now table)) × Head (slots counts) (slots counts + 1) (Started (incidences counts (now nodes) (now operands) (now roots) (now producers) p) (slots counts)) (now table) (now table) ⌝ }
     ensures { λ _. ⌜ now (table .exit) ≡ behindLists (incidences counts (now (nodes .entry)) (now (operands .entry)) (now (roots .entry)) (now (producers .entry)) p) (slots counts) (now (table .entry)) ⌝ }
 {
-    let mut cursor = Cursor {
-        unit: 0,
-        index: 0,
-    };
+    let mut cursor = Cursor { unit: 0, index: 0 };
     loop {
         let step = next_incidence(counts, nodes, operands, roots, producers, p, cursor);
         let Incidence::Next(slot, entry, next) = step else {

@@ -3,42 +3,28 @@ use Rattle.readers.proofs.Table.{sums-start, sums-fit, passes-build}
 use borrow.Author.Needs.{needs}
 use Rattle.readers.proofs.build.Statement.{statement}
 use Rattle.readers.proofs.build.Tie as tie
-use Rattle.readers.proofs.build.Reads as reads
-use Rattle.readers.proofs.build.Lts as lts
-use Rattle.readers.proofs.clear.Reads as clear-reads
-use Rattle.readers.proofs.count.Reads as count-reads
-use Rattle.readers.proofs.place.Reads as place-reads
-use Rattle.readers.proofs.sum.Reads as sum-reads
 
--- src/lib.rt:312:13
 add-n : tie.Need-add-n
 add-n c = search needs
 
--- src/lib.rt:312:13
 add-n-2 : tie.Need-add-n-2
 add-n-2 c = search needs
 
--- src/lib.rt:313:5
 clear-requires : tie.Need-clear-requires
 clear-requires c κs = search needs
 
--- src/lib.rt:314:5
 count-requires : tie.Need-count-requires
 count-requires c κs = search needs
 
--- src/lib.rt:315:5
 sum-requires : tie.Need-sum-requires
 sum-requires c κs = (omega (arith, c .before .before .before .count .ensures .long, c .before .before .before .before .before .before .before .clear .ensures .long, c .before .before .before .before .before .before .before .before .before .before .before .before .before .before .before .pre .1), sums-fit _ _ _ _ _ _ (c .before .before .before .before .before .before .before .before .before .before .before .before .before .before .before .pre .0) _ _ (c .before .before .before .count .ensures), c .before .before .before .count .ensures .first)
 
--- src/lib.rt:316:5
 place-requires : tie.Need-place-requires
 place-requires c κs = (c .before .before .before .before .before .before .before .before .before .before .before .before .before .before .before .before .before .before .before .pre .0, omega (arith, c .before .before .before .sum .ensures .long, c .before .before .before .before .before .before .before .count .ensures .long, c .before .before .before .before .before .before .before .before .before .before .before .clear .ensures .long, c .before .before .before .before .before .before .before .before .before .before .before .before .before .before .before .before .before .before .before .pre .1), sums-start _ _ _ _ _ (c .before .before .before .before .before .before .before .count .ensures) (c .before .before .before .sum .ensures))
 
--- src/lib.rt:300:1
 same-length : tie.Need-same-length
 same-length c = search needs
 
--- src/lib.rt:300:1
 returns : tie.Need-returns
 returns c = passes-build _ _ _ _ _ _ (c .before .before .before .before .before .before .before .before .before .before .before .before .before .before .before .before .before .before .before .before .before .before .pre .0) _ _ _ _ _ (c .before .before .before .before .before .before .before .before .before .before .before .before .before .before .clear .ensures) (c .before .before .before .before .before .before .before .before .before .before .count .ensures) (c .before .before .before .before .before .before .sum .ensures) (c .before .before .place .ensures)
 

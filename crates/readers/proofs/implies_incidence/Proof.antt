@@ -1,30 +1,22 @@
-use mathlib.Core.Path.{_≡_, refl, sym, ap, _∙_}
+use mathlib.Core.Path.{refl}
 use native.Mathlib.Omega.{arith}
 use Rattle.readers.proofs.Steps.{operand-entry, operand-past}
 use borrow.Author.Needs.{needs}
 use Rattle.readers.proofs.implies_incidence.Statement.{statement}
 use Rattle.readers.proofs.implies_incidence.Tie as tie
-use Rattle.readers.proofs.implies_incidence.Reads as reads
-use Rattle.readers.proofs.implies_incidence.Lts as lts
-use Rattle.readers.proofs.Reader.node.Reads as node-reads
 
--- src/lib.rt:101:34
 node-requires : tie.Need-node-requires
 node-requires c κs = search needs
 
--- src/lib.rt:102:35
 node-requires-2 : tie.Need-node-requires-2
 node-requires-2 c κs = search needs
 
--- src/lib.rt:96:1
 returns : tie.Need-returns
 returns c = rw (c .before .match .keys1) (operand-entry _ _ _ _ _ (omega arith) refl (c .node .ensures))
 
--- src/lib.rt:96:1
 returns-2 : tie.Need-returns-2
 returns-2 c = rw (c .before .match .keys2) (operand-entry _ _ _ _ _ (omega arith) refl (c .node2 .ensures))
 
--- src/lib.rt:96:1
 returns-3 : tie.Need-returns-3
 returns-3 c = operand-past _ _ _ (omega (arith, c .match .rest .1, c .match .rest .0 .1))
 

@@ -3,31 +3,22 @@ use Rattle.readers.specs.LaidLaws.{order-read}
 use borrow.Author.Needs.{needs}
 use Rattle.readers.proofs.in_order.Statement.{statement}
 use Rattle.readers.proofs.in_order.Tie as tie
-use Rattle.readers.proofs.in_order.Reads as reads
-use Rattle.readers.proofs.in_order.Lts as lts
-use Rattle.words.proofs.word64.Reads as word64-reads
 
--- src/lib.rt:324:9
 word64-requires : tie.Need-word64-requires
 word64-requires c κs = search needs
 
--- src/lib.rt:325:36
 add-word64 : tie.Need-add-word64
 add-word64 c = search needs
 
--- src/lib.rt:325:9
 word64-requires-2 : tie.Need-word64-requires-2
 word64-requires-2 c κs = search needs
 
--- src/lib.rt:327:9
 returns : tie.Need-returns
 returns c = order-read _ _ _ _ (c .before .before .word64 .ensures) (c .before .word642 .ensures) _ _ (rw (lt-leb _ _ (c .if1 .taken)))
 
--- src/lib.rt:330:9
 returns-2 : tie.Need-returns-2
 returns-2 c = order-read _ _ _ _ (c .before .before .before .word64 .ensures) (c .before .before .word642 .ensures) _ _ (rw (le-leb _ _ (c .before .if1 .left), lt-leb _ _ (c .if2 .taken)))
 
--- src/lib.rt:320:1
 returns-3 : tie.Need-returns-3
 returns-3 c = order-read _ _ _ _ (c .before .before .before .word64 .ensures) (c .before .before .word642 .ensures) _ _ (rw (le-leb _ _ (c .before .if1 .left), le-leb _ _ (c .if2 .left)))
 

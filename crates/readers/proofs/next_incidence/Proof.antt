@@ -7,9 +7,6 @@ use Rattle.readers.proofs.Rest.{listed-within, rest-next, rest-past, re
 use Rattle.readers.proofs.Few.{unit-few}
 use Rattle.readers.proofs.next_incidence.Statement.{statement}
 use Rattle.readers.proofs.next_incidence.Tie as tie
-use Rattle.readers.proofs.next_incidence.Reads as reads
-use Rattle.readers.proofs.next_incidence.Lts as lts
-use Rattle.readers.proofs.unit_incidence.Reads as unit-incidence-reads
 
 abbrev Inv-loop : tie.InvT-loop
 Inv-loop counts nodes operands roots producers p end unit₀ index₀ unit index = (end ≡ units counts p) × At counts nodes operands roots producers p unit index × (restOf counts nodes operands roots producers p unit₀ index₀ ≡ restOf counts nodes operands roots producers p unit index)
@@ -17,50 +14,39 @@ Inv-loop counts nodes operands roots producers p end unit₀ index₀ unit index
 abbrev μ-loop : tie.MeasureT-loop
 μ-loop counts nodes operands roots producers p end unit₀ index₀ unit index = end - unit
 
--- src/lib.rt:197:15
 add-end : tie.Need-add-end Inv-loop μ-loop
 add-end c = omega (arith, c .before .before .before .before .before .pre .0 .limited, c .before .before .before .before .before .pre .0 .few)
 
--- src/lib.rt:197:15
 add-end-2 : tie.Need-add-end-2 Inv-loop μ-loop
 add-end-2 c = omega (arith, c .before .before .before .before .before .before .pre .0 .limited, c .before .before .before .before .before .before .pre .0 .few)
 
--- src/lib.rt:200:5
 loop-holds : tie.Need-loop-holds Inv-loop μ-loop
 loop-holds c = (refl, c .before .before .before .before .before .before .pre .1, refl)
 
--- src/lib.rt:201:13
 unit-incidence-requires : tie.Need-unit-incidence-requires Inv-loop μ-loop
 unit-incidence-requires c κs = (c .before .before .before .before .before .before .before .before .pre .0, rw (c .before .loop .inv .0) at (c .loop-test .taken))
 
--- src/lib.rt:202:30
 enum-known-listed : tie.Need-enum-known-listed Inv-loop μ-loop
 enum-known-listed c = search needs
 
--- src/lib.rt:208:28
 add-t16 : tie.Need-add-t16 Inv-loop μ-loop
 add-t16 c = omega (arith, listed-within _ _ _ _ (sym (c .before .before .before .unit-incidence .ensures) ∙ c .before .listed .given .1), unit-few _ _ _ _ _ _ (c .before .before .before .before .before .before .before .before .before .before .before .before .pre .0) (c .before .before .before .before .before .loop .unit), c .before .before .before .before .before .before .before .before .before .before .before .before .pre .0 .limited .operands)
 
--- src/lib.rt:203:13
 returns : tie.Need-returns Inv-loop μ-loop
 returns c = (c .before .before .before .before .before .loop .inv .2 ∙ rest-next _ _ _ _ _ _ _ _ (rw (c .before .before .before .before .before .loop .inv .0) at (c .before .before .before .before .loop-test .taken)) (c .before .before .before .before .before .loop .inv .1) _ _ (sym (c .before .before .before .unit-incidence .ensures) ∙ c .before .listed .given .1) .0, rest-next _ _ _ _ _ _ _ _ (rw (c .before .before .before .before .before .loop .inv .0) at (c .before .before .before .before .loop-test .taken)) (c .before .before .before .before .before .loop .inv .1) _ _ (sym (c .before .before .before .unit-incidence .ensures) ∙ c .before .listed .given .1) .1)
 
 enum-told : tie.Need-enum-told Inv-loop μ-loop
 enum-told c = search needs
 
--- src/lib.rt:212:9
 add-unit : tie.Need-add-unit Inv-loop μ-loop
 add-unit c = search needs
 
--- src/lib.rt:200:5
 loop-less : tie.Need-loop-less Inv-loop μ-loop
 loop-less c = search needs
 
--- src/lib.rt:200:5
 loop-again : tie.Need-loop-again Inv-loop μ-loop
 loop-again c = (c .before .before .before .before .loop .inv .0, rest-past _ _ _ _ _ _ _ _ (rw (c .before .before .before .before .loop .inv .0) at (c .before .before .before .loop-test .taken)) (c .before .before .before .before .loop .inv .1) (sym (c .before .before .unit-incidence .ensures) ∙ c .enum-told .given .1) .1, c .before .before .before .before .loop .inv .2 ∙ rest-past _ _ _ _ _ _ _ _ (rw (c .before .before .before .before .loop .inv .0) at (c .before .before .before .loop-test .taken)) (c .before .before .before .before .loop .inv .1) (sym (c .before .before .unit-incidence .ensures) ∙ c .enum-told .given .1) .0)
 
--- src/lib.rt:185:1
 returns-2 : tie.Need-returns-2 Inv-loop μ-loop
 returns-2 c = c .before .loop .inv .2 ∙ rest-done _ _ _ _ _ _ _ _ (rw (c .before .loop .inv .0) at (c .loop-test .left))
 

@@ -1,5 +1,5 @@
 use native.Mathlib.Nat.{le-refl}
-use mathlib.Core.Path.{_≡_, refl, sym, ap, _∙_}
+use mathlib.Core.Path.{sym, _∙_}
 use native.Mathlib.Omega.{arith}
 use Rattle.theory.specs.Node.{operandsOf}
 use Rattle.theory.specs.Formed.{atom-below, and-indexed, or-indexed}
@@ -8,91 +8,66 @@ use Rattle.readers.proofs.Steps.{node-listed, past-none}
 use borrow.Author.Needs.{needs}
 use Rattle.readers.proofs.node_incidence.Statement.{statement}
 use Rattle.readers.proofs.node_incidence.Tie as tie
-use Rattle.readers.proofs.node_incidence.Reads as reads
-use Rattle.readers.proofs.node_incidence.Lts as lts
-use Rattle.readers.proofs.implies_incidence.Reads as implies-incidence-reads
-use Rattle.readers.proofs.only_incidence.Reads as only-incidence-reads
-use Rattle.readers.proofs.operand_incidence.Reads as operand-incidence-reads
-use Rattle.theory.proofs.view.Reads as view-reads
 
--- src/lib.rt:129:11
 view-requires : tie.Need-view-requires
 view-requires c κs = search needs
 
--- src/lib.rt:130:20
 enum-known-a : tie.Need-enum-known-a
 enum-known-a c = search needs
 
--- src/lib.rt:130:41
 add-only-incidence : tie.Need-add-only-incidence
 add-only-incidence c = search needs
 
--- src/lib.rt:130:41
 add-only-incidence-2 : tie.Need-add-only-incidence-2
 add-only-incidence-2 c = omega (arith, atom-below _ _ _ (c .before .before .before .before .before .before .before .pre .2) _ (c .before .before .before .before .before .before .before .pre .0) _ (sym (c .before .before .before .before .view .ensures .0) ∙ c .before .before .a .given .1), c .before .before .before .before .before .before .before .pre .1 .atoms, c .before .before .before .before .before .before .before .pre .1 .nodes)
 
--- src/lib.rt:130:26
 only-incidence-requires : tie.Need-only-incidence-requires
 only-incidence-requires c κs = search needs
 
--- src/lib.rt:131:24
 enum-told : tie.Need-enum-told
 enum-told c = search needs
 
--- src/lib.rt:132:23
 enum-known-left : tie.Need-enum-known-left
 enum-known-left c = search needs
 
--- src/lib.rt:132:39
 implies-incidence-requires : tie.Need-implies-incidence-requires
 implies-incidence-requires c κs = search needs
 
--- src/lib.rt:133:19
 enum-known-s : tie.Need-enum-known-s
 enum-known-s c = search needs
 
--- src/lib.rt:133:28
 operand-incidence-requires : tie.Need-operand-incidence-requires
 operand-incidence-requires c κs = (and-indexed _ _ _ (c .before .before .before .before .before .before .pre .2) _ (c .before .before .before .before .before .before .pre .0) _ _ _ (le-refl _) (sym (c .before .before .before .view .ensures .0) ∙ c .before .s .given .1) .within, omega (arith, c .before .before .before .before .before .before .pre))
 
--- src/lib.rt:134:18
 enum-known-s-2 : tie.Need-enum-known-s-2
 enum-known-s-2 c = search needs
 
--- src/lib.rt:134:27
 operand-incidence-requires-2 : tie.Need-operand-incidence-requires-2
 operand-incidence-requires-2 c κs = (or-indexed _ _ _ (c .before .before .before .before .before .before .pre .2) _ (c .before .before .before .before .before .before .pre .0) _ _ _ (le-refl _) (sym (c .before .before .before .view .ensures .0) ∙ c .before .s2 .given .1) .within, omega (arith, c .before .before .before .before .before .before .pre))
 
--- src/lib.rt:135:26
 enum-told-2 : tie.Need-enum-told-2
 enum-told-2 c = search needs
 
--- src/lib.rt:119:1
 returns : tie.Need-returns
 unfolding nodeItems operandsOf
 returns c = node-listed _ _ _ _ _ _ _ _ (c .before .before .before .before .before .view .ensures .0) (c .before .before .before .a .given .1) (c .only-incidence .ensures)
 
--- src/lib.rt:119:1
 returns-2 : tie.Need-returns-2
 unfolding nodeItems operandsOf
 returns-2 c = node-listed _ _ _ _ _ _ _ _ (c .before .before .view .ensures .0) (c .enum-told .given .1) (past-none _)
 
--- src/lib.rt:119:1
 returns-3 : tie.Need-returns-3
 unfolding nodeItems operandsOf
 returns-3 c = node-listed _ _ _ _ _ _ _ _ (c .before .before .before .before .view .ensures .0) (c .before .before .left .given .1) (c .implies-incidence .ensures)
 
--- src/lib.rt:119:1
 returns-4 : tie.Need-returns-4
 unfolding nodeItems operandsOf
 returns-4 c = node-listed _ _ _ _ _ _ _ _ (c .before .before .before .before .view .ensures .0) (c .before .before .s .given .1) (c .operand-incidence .ensures)
 
--- src/lib.rt:119:1
 returns-5 : tie.Need-returns-5
 unfolding nodeItems operandsOf
 returns-5 c = node-listed _ _ _ _ _ _ _ _ (c .before .before .before .before .view .ensures .0) (c .before .before .s2 .given .1) (c .operand-incidence2 .ensures)
 
--- src/lib.rt:119:1
 returns-6 : tie.Need-returns-6
 unfolding nodeItems operandsOf
 returns-6 c = node-listed _ _ _ _ _ _ _ _ (c .before .before .view .ensures .0) (c .enum-told2 .given .1) (past-none _)

@@ -1,32 +1,23 @@
-use mathlib.Core.Path.{_≡_, refl, sym, ap, _∙_}
+use mathlib.Core.Path.{_∙_}
 use native.Mathlib.Omega.{arith}
 use Rattle.theory.specs.Spans.{length-span}
 use Rattle.readers.proofs.Steps.{operand-entry, operand-past, span-at}
 use borrow.Author.Needs.{needs}
 use Rattle.readers.proofs.operand_incidence.Statement.{statement}
 use Rattle.readers.proofs.operand_incidence.Tie as tie
-use Rattle.readers.proofs.operand_incidence.Reads as reads
-use Rattle.readers.proofs.operand_incidence.Lts as lts
-use Rattle.readers.proofs.Reader.node.Reads as node-reads
-use Rattle.words.proofs.word.Reads as word-reads
 
--- src/lib.rt:89:45
 add-word : tie.Need-add-word
 add-word c = search needs
 
--- src/lib.rt:89:23
 word-requires : tie.Need-word-requires
 word-requires c κs = search needs
 
--- src/lib.rt:89:57
 node-requires : tie.Need-node-requires
 node-requires c κs = search needs
 
--- src/lib.rt:84:1
 returns : tie.Need-returns
 returns c = operand-entry _ _ _ _ _ (omega (arith, length-span (c .before .before .before .before .args .operands .now) (c .before .before .before .before .args .start) (c .before .before .before .before .args .count) (c .before .before .before .before .pre .0), c .before .before .if1 .taken)) (c .before .word .ensures .0 ∙ span-at _ _ _ _ (c .before .before .if1 .taken)) (c .node .ensures)
 
--- src/lib.rt:84:1
 returns-2 : tie.Need-returns-2
 returns-2 c = operand-past _ _ _ (omega (arith, length-span (c .before .before .args .operands .now) (c .before .before .args .start) (c .before .before .args .count) (c .before .before .pre .0), c .if1 .left))
 

@@ -1,10 +1,8 @@
 use borrow.Author.Needs.{needs}
 use native.Mathlib.Omega.{arith}
-use mathlib.Core.Path.{_≡_}
-use Prim.Native.Nat.{_+_}
 use lib.ListN.{length, length-set}
 use Rattle.readers.specs.Incidences.{incidences}
-use Rattle.readers.specs.Readers.{slots}
+use Rattle.readers.specs.ReaderTable.{slots}
 use Rattle.readers.specs.Cursor.{restOf}
 use Rattle.readers.proofs.Rest.{rest-all}
 use Rattle.readers.proofs.Few.{table-room}
@@ -12,10 +10,6 @@ use Rattle.readers.proofs.Walk.{Ahead, ahead-all, Taken, taken, done}
 use Rattle.readers.proofs.Placement.{Placing, place-none, place-more, place-within, place-done}
 use Rattle.readers.proofs.place.Statement.{statement}
 use Rattle.readers.proofs.place.Tie as tie
-use Rattle.readers.proofs.place.Reads as reads
-use Rattle.readers.proofs.place.Lts as lts
-use Rattle.readers.proofs.next_incidence.Reads as next-incidence-reads
-use Rattle.words.proofs.word64.Reads as word64-reads
 
 abbrev Inv-loop : tie.InvT-loop
 Inv-loop counts nodes operands roots producers p table₀ cursor₀ table cursor = Ahead counts nodes operands roots producers p (cursor .unit) (cursor .index) × Placing (incidences counts nodes operands roots producers p) (restOf counts nodes operands roots producers p (cursor .unit) (cursor .index)) (slots counts) table₀ table
@@ -31,67 +25,51 @@ took : (c : tie.After-known-told Inv-loop μ-loop) →
     Taken (a .counts) (a .nodes .now) (a .operands .now) (a .roots .now) (a .producers .now) (a .p) (cursor .unit) (cursor .index) (g .0) (g .1 .0) (g .1 .1 .0))
 took c = taken _ _ _ _ _ _ _ _ _ (c .before .before .before .next-incidence .ensures) _ _ _ (c .before .step .given .1) (c .before .before .before .before .loop .inv .0)
 
--- src/lib.rt:286:5
 loop-holds : tie.Need-loop-holds Inv-loop μ-loop
 loop-holds c = (ahead-all _ _ _ _ _ _ (c .before .before .before .before .before .pre .0), place-none _ _ _ _ (rest-all _ _ _ _ _ _) (c .before .before .before .before .before .pre .2))
 
--- src/lib.rt:287:13
 next-incidence-requires : tie.Need-next-incidence-requires Inv-loop μ-loop
 next-incidence-requires c κs = (c .before .before .before .before .before .before .pre .0, c .loop .inv .0 .at)
 
--- src/lib.rt:288:29
 enum-known-step : tie.Need-enum-known-step Inv-loop μ-loop
 enum-known-step c = search needs
 
--- src/lib.rt:289:13
 enum-told : tie.Need-enum-told Inv-loop μ-loop
 enum-told c = search needs
 
--- src/lib.rt:289:13
 same-length : tie.Need-same-length Inv-loop μ-loop
 same-length c = c .before .before .before .loop .inv .1 .head .long
 
--- src/lib.rt:289:13
 returns : tie.Need-returns Inv-loop μ-loop
 returns c = place-done _ _ _ _ _ (done _ _ _ _ _ _ _ _ _ (c .before .before .next-incidence .ensures) (c .enum-told .given .1)) (table-room _ _ _ _ _ _ (c .before .before .before .before .before .before .before .before .before .pre .0) _ (c .before .before .before .before .before .before .before .before .before .pre .1)) (c .before .before .before .loop .inv .1)
 
--- src/lib.rt:291:39
 add-word64 : tie.Need-add-word64 Inv-loop μ-loop
 add-word64 c = omega (arith, (took (c .before) .slot), c .before .before .before .before .before .before .before .before .before .before .before .pre .0 .limited)
 
--- src/lib.rt:291:13
 word64-requires : tie.Need-word64-requires Inv-loop μ-loop
 word64-requires c κs = omega (arith, (took (c .before) .slot), c .before .before .before .before .before .before .before .before .before .before .before .pre .1, c .before .before .before .before .before .loop .inv .1 .head .long)
 
--- src/lib.rt:292:9
 mul-table : tie.Need-mul-table Inv-loop μ-loop
 mul-table c = omega (arith, c .word64 .ensures, place-within _ _ _ _ _ _ _ _ (took (c .before .before) .first) (took (c .before .before) .slot) (table-room _ _ _ _ _ _ (c .before .before .before .before .before .before .before .before .before .before .before .before .pre .0) _ (c .before .before .before .before .before .before .before .before .before .before .before .before .pre .1)) (c .before .before .before .before .before .before .loop .inv .1), c .before .before .before .before .before .before .loop .inv .1 .head .long, c .before .before .before .before .before .before .before .before .before .before .before .before .good)
 
--- src/lib.rt:292:9
 slice-write-table : tie.Need-slice-write-table Inv-loop μ-loop
 slice-write-table c = rw (c .word64 .ensures) (place-within _ _ _ _ _ _ _ _ (took (c .before .before) .first) (took (c .before .before) .slot) (table-room _ _ _ _ _ _ (c .before .before .before .before .before .before .before .before .before .before .before .before .pre .0) _ (c .before .before .before .before .before .before .before .before .before .before .before .before .pre .1)) (c .before .before .before .before .before .before .loop .inv .1))
 
--- src/lib.rt:293:28
 add-table : tie.Need-add-table Inv-loop μ-loop
 add-table c = omega (arith, c .word64 .ensures, place-within _ _ _ _ _ _ _ _ (took (c .before .before) .first) (took (c .before .before) .slot) (table-room _ _ _ _ _ _ (c .before .before .before .before .before .before .before .before .before .before .before .before .pre .0) _ (c .before .before .before .before .before .before .before .before .before .before .before .before .pre .1)) (c .before .before .before .before .before .before .loop .inv .1), c .before .before .before .before .before .before .loop .inv .1 .head .long, c .before .before .before .before .before .before .before .before .before .before .before .before .good)
 
--- src/lib.rt:293:15
 add-table-2 : tie.Need-add-table-2 Inv-loop μ-loop
 add-table-2 c = omega (arith, (took (c .before .before) .slot), c .before .before .before .before .before .before .before .before .before .before .before .before .pre .0 .limited)
 
--- src/lib.rt:293:9
 mul-table-2 : tie.Need-mul-table-2 Inv-loop μ-loop
 mul-table-2 c = omega (arith, (took (c .before .before) .slot), c .before .before .before .before .before .before .before .before .before .before .before .before .pre .1, c .before .before .before .before .before .before .loop .inv .1 .head .long, c .before .before .before .before .before .before .before .before .before .before .before .before .good)
 
--- src/lib.rt:293:9
 slice-write-table-2 : tie.Need-slice-write-table-2 Inv-loop μ-loop
 slice-write-table-2 c = simp length-set (omega (arith, (took (c .before .before) .slot), c .before .before .before .before .before .before .before .before .before .before .before .before .pre .1, c .before .before .before .before .before .before .loop .inv .1 .head .long))
 
--- src/lib.rt:286:5
 loop-less : tie.Need-loop-less Inv-loop μ-loop
 loop-less c = took (c .before .before) .less
 
--- src/lib.rt:286:5
 loop-again : tie.Need-loop-again Inv-loop μ-loop
 loop-again c = (took (c .before .before) .ahead, rw (c .word64 .ensures) (place-more _ _ _ _ _ _ _ _ (took (c .before .before) .first) (took (c .before .before) .slot) (table-room _ _ _ _ _ _ (c .before .before .before .before .before .before .before .before .before .before .before .before .pre .0) _ (c .before .before .before .before .before .before .before .before .before .before .before .before .pre .1)) (c .before .before .before .before .before .before .loop .inv .1)))
 

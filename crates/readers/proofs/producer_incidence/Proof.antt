@@ -1,45 +1,32 @@
-use mathlib.Core.Path.{_≡_, refl, sym, ap, _∙_}
+use mathlib.Core.Path.{refl}
 use native.Mathlib.Omega.{arith}
 use Prim.Native.Nat.{suc, _-_}
 use Rattle.readers.proofs.Steps.{body-listed, item-listed, past-none}
 use borrow.Author.Needs.{needs}
 use Rattle.readers.proofs.producer_incidence.Statement.{statement}
 use Rattle.readers.proofs.producer_incidence.Tie as tie
-use Rattle.readers.proofs.producer_incidence.Reads as reads
-use Rattle.readers.proofs.producer_incidence.Lts as lts
-use Rattle.readers.proofs.Reader.producer.Reads as producer-reads
-use Rattle.readers.proofs.only_incidence.Reads as only-incidence-reads
-use Rattle.words.proofs.word.Reads as word-reads
 
--- src/lib.rt:144:39
 mul-word : tie.Need-mul-word
 mul-word c = search needs
 
--- src/lib.rt:144:39
 add-word : tie.Need-add-word
 add-word c = search needs
 
--- src/lib.rt:144:9
 word-requires : tie.Need-word-requires
 word-requires c κs = search needs
 
--- src/lib.rt:148:24
 sub-only-incidence : tie.Need-sub-only-incidence
 sub-only-incidence c = search needs
 
--- src/lib.rt:148:34
 producer-requires : tie.Need-producer-requires
 producer-requires c κs = search needs
 
--- src/lib.rt:148:9
 only-incidence-requires : tie.Need-only-incidence-requires
 only-incidence-requires c κs = search needs
 
--- src/lib.rt:140:1
 returns : tie.Need-returns
 returns c = body-listed _ _ _ _ 0 _ (c .before .word .ensures .0) (c .if1 .taken) (past-none _)
 
--- src/lib.rt:140:1
 returns-2 : tie.Need-returns-2
 returns-2 c = body-listed _ _ _ _ (suc (c .before .before .before .word .result - 1)) _ (c .before .before .before .word .ensures .0) (omega (arith, c .before .before .if1 .left)) (item-listed _ _ _ _ _ _ (c .only-incidence .ensures) refl (c .before .producer .ensures))
 

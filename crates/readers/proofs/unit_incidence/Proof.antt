@@ -1,48 +1,32 @@
-use mathlib.Core.Path.{_≡_, refl, sym, ap, _∙_}
-use native.Mathlib.Omega.{arith}
 use Rattle.readers.proofs.Steps.{unit-node, unit-producer, unit-root}
 use borrow.Author.Needs.{needs}
 use Rattle.readers.proofs.unit_incidence.Statement.{statement}
 use Rattle.readers.proofs.unit_incidence.Tie as tie
-use Rattle.readers.proofs.unit_incidence.Reads as reads
-use Rattle.readers.proofs.unit_incidence.Lts as lts
-use Rattle.readers.proofs.node_incidence.Reads as node-incidence-reads
-use Rattle.readers.proofs.producer_incidence.Reads as producer-incidence-reads
-use Rattle.readers.proofs.root_incidence.Reads as root-incidence-reads
 
--- src/lib.rt:176:9
 node-incidence-requires : tie.Need-node-incidence-requires
 node-incidence-requires c κs = search needs
 
--- src/lib.rt:176:9
 returns : tie.Need-returns
 returns c = unit-node _ _ _ _ _ _ _ _ _ (c .before .if1 .taken) (c .node-incidence .ensures)
 
--- src/lib.rt:178:12
 add-if2 : tie.Need-add-if2
 add-if2 c = search needs
 
--- src/lib.rt:179:9
 producer-incidence-requires : tie.Need-producer-incidence-requires
 producer-incidence-requires c κs = search needs
 
--- src/lib.rt:179:9
 returns-2 : tie.Need-returns-2
 returns-2 c = unit-producer _ _ _ _ _ _ _ _ _ (c .before .before .if1 .left) (c .before .if2 .taken) (c .producer-incidence .ensures)
 
--- src/lib.rt:181:32
 add-root-incidence : tie.Need-add-root-incidence
 add-root-incidence c = search needs
 
--- src/lib.rt:181:27
 sub-root-incidence : tie.Need-sub-root-incidence
 sub-root-incidence c = search needs
 
--- src/lib.rt:181:5
 root-incidence-requires : tie.Need-root-incidence-requires
 root-incidence-requires c κs = search needs
 
--- src/lib.rt:161:1
 returns-3 : tie.Need-returns-3
 returns-3 c = unit-root _ _ _ _ _ _ _ _ _ (c .before .if2 .left) (c .root-incidence .ensures)
 

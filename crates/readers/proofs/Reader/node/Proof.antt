@@ -3,10 +3,7 @@ use mathlib.Core.Path.{sym}
 use Rattle.readers.specs.Reader.{packed}
 use Rattle.readers.proofs.Reader.node.Statement.{statement}
 use Rattle.readers.proofs.Reader.node.Tie as tie
-use Rattle.readers.proofs.Reader.node.Reads as reads
-use Rattle.readers.proofs.Reader.node.Lts as lts
 
--- src/lib.rt:23:5
 returns : tie.Need-returns
 unfolding packed
 returns c = sym (zero-add _)

@@ -3,18 +3,13 @@ use Rattle.readers.specs.Reader.{packed}
 use borrow.Author.Needs.{needs}
 use Rattle.readers.proofs.Reader.producer.Statement.{statement}
 use Rattle.readers.proofs.Reader.producer.Tie as tie
-use Rattle.readers.proofs.Reader.producer.Reads as reads
-use Rattle.readers.proofs.Reader.producer.Lts as lts
 
--- src/lib.rt:34:25
 cast-t2 : tie.Need-cast-t2
 cast-t2 c = search needs
 
--- src/lib.rt:34:17
 shl-t3 : tie.Need-shl-t3
 shl-t3 c = search needs
 
--- src/lib.rt:30:5
 returns : tie.Need-returns
 unfolding packed
 returns c = or-shifted 2 62 (c .args .i) (c .pre)

@@ -3,42 +3,31 @@ use Rattle.readers.proofs.Steps.{read-as, other-tag}
 use borrow.Author.Needs.{needs}
 use Rattle.readers.proofs.Reader.reading.Statement.{statement}
 use Rattle.readers.proofs.Reader.reading.Tie as tie
-use Rattle.readers.proofs.Reader.reading.Reads as reads
-use Rattle.readers.proofs.Reader.reading.Lts as lts
 
--- src/lib.rt:49:38
 cast-index : tie.Need-cast-index
 cast-index c = search needs
 
--- src/lib.rt:49:30
 shl-index : tie.Need-shl-index
 shl-index c = search needs
 
--- src/lib.rt:49:22
 rem-index : tie.Need-rem-index
 rem-index c = search needs
 
--- src/lib.rt:50:23
 cast-match : tie.Need-cast-match
 cast-match c = search needs
 
--- src/lib.rt:50:15
 shr-match : tie.Need-shr-match
 shr-match c = search needs
 
--- src/lib.rt:45:5
 returns : tie.Need-returns
 returns c = read-as (c .before .args .self .0) 0 _ (c .match .keys1) refl
 
--- src/lib.rt:45:5
 returns-2 : tie.Need-returns-2
 returns-2 c = read-as (c .before .args .self .0) 2 _ (c .match .keys2) refl
 
--- src/lib.rt:45:5
 returns-3 : tie.Need-returns-3
 returns-3 c = read-as (c .before .args .self .0) 3 _ (c .match .keys3) refl
 
--- src/lib.rt:45:5
 returns-4 : tie.Need-returns-4
 returns-4 c = read-as (c .before .args .self .0) _ _ refl (other-tag _ _ (c .match .rest .0 .0 .1) (c .match .rest .0 .1) (c .match .rest .1))
 

@@ -3,18 +3,13 @@ use Rattle.readers.specs.Reader.{packed}
 use borrow.Author.Needs.{needs}
 use Rattle.readers.proofs.Reader.root.Statement.{statement}
 use Rattle.readers.proofs.Reader.root.Tie as tie
-use Rattle.readers.proofs.Reader.root.Reads as reads
-use Rattle.readers.proofs.Reader.root.Lts as lts
 
--- src/lib.rt:41:25
 cast-t2 : tie.Need-cast-t2
 cast-t2 c = search needs
 
--- src/lib.rt:41:17
 shl-t3 : tie.Need-shl-t3
 shl-t3 c = search needs
 
--- src/lib.rt:37:5
 returns : tie.Need-returns
 unfolding packed
 returns c = or-shifted 3 62 (c .args .i) (c .pre)
