@@ -13,10 +13,10 @@ use lib.Seq.{getD-set-same, getD-set-other, getD-drop, drop-set-lt, drop-drop}
 use borrow.Author.Tests.{eq-eqb, ne-eqb}
 use Rattle.base.specs.Tests.{equal-or, below-or}
 use Rattle.readers.specs.Joined.{joined, joined-agree, joined-more, joined-none}
-use Rattle.readers.specs.Laid.{startOf, laid}
-use Rattle.readers.specs.LaidLaws.{start-zero, start-more, start-rises, start-least, laid-is}
+use Rattle.readers.specs.Laid.{startOf, laid, laidOver}
+use Rattle.readers.specs.LaidLaws.{start-zero, start-more, start-rises, start-least, length-laid, laid-is}
 use Rattle.readers.specs.Incidences.{Item, item, entriesOf}
-use Rattle.readers.specs.Placement.{Head, total, Zero, Counted, Summed, Started, behindLists}
+use Rattle.readers.specs.Placement.{Head, total, Zero, Counted, Summed, Started}
 
 -- ---- entries of a list
 
@@ -321,10 +321,10 @@ module _ (all : List Item) (n : ℕ) where
 
   -- nothing left: the table is laid
   pub place-done : (left : List Item) (before words : List ℕ) → left ≡ [] → start n ≤ length before → Placing all left n before words
-      → words ≡ behindLists all n before
-  unfolding behindLists
+      → words ≡ laidOver (λ r. entriesOf r all) n before
+  unfolding laidOver
   place-done left before words q room h =
-      laid-is (λ r. entriesOf r all) n words (omega (arith, h .head .long)) starts lists ∙ ap (λ r. laid (λ r. entriesOf r all) n ++ r) (h .head .behind)
+      laid-is (λ r. entriesOf r all) n words (omega (arith, h .head .long)) starts lists ∙ ap (λ r. laid (λ r. entriesOf r all) n ++ r) (h .head .behind ∙ ap (λ k. drop k before) (sym (length-laid (λ r. entriesOf r all) n)))
     where
       full : (s : ℕ) → s < n → getD words (s + 1) 0 ≡ start (s + 1)
       full s l =

@@ -24,7 +24,7 @@ use Rattle.readers.specs.Reader.{nodeReader, producerReader, rootReader}
 use Rattle.readers.specs.Incidences.{Item, item, atomSlot, operandItems, nodeItems, bodyItems, producerItems, rootItems, incidences, entriesOf}
 use Rattle.readers.specs.Readers.{occurrences, readingNode, readersOf}
 use Rattle.readers.specs.AtomNodes.{isAtomOf, atomNodesOf}
-use Rattle.readers.specs.ReaderTable.{listOf, slots, readerTable}
+use Rattle.readers.specs.ReaderTable.{listOf, slots}
 use Rattle.readers.specs.Planned.{Planned}
 use Rattle.readers.proofs.Placement.{entries-here, entries-other}
 
@@ -209,6 +209,5 @@ module _ (t : Counts) (nodes operands roots producers : List ℕ) (p : ℕ) wher
         gap e = rw (e, le-ltb (t .nodes) (t .nodes) (omega arith)) (sym gap-filtered)
 
     -- so the table is the incidences laid by their slots
-    pub table-filtered : readerTable t nodes operands roots producers p ≡ laid (λ s. entriesOf s stream) (slots t)
-    unfolding readerTable
-    table-filtered = laid-agree (listOf t nodes operands roots producers p) (λ s. entriesOf s stream) (slots t) (λ s l. readers s)
+    pub lists-laid : laid (λ s. listOf t nodes operands roots producers p s) (slots t) ≡ laid (λ s. entriesOf s stream) (slots t)
+    lists-laid = laid-agree _ (λ s. entriesOf s stream) (slots t) (λ s l. readers s)

@@ -8,17 +8,17 @@ use lib.ListN.{length, drop}
 use lib.Seq.{drop-drop}
 use borrow.Author.Tests.{lt-ltb, le-ltb}
 use Rattle.theory.specs.declared.Counts.{Counts}
-use Rattle.readers.specs.Laid.{startOf, laid, listAt, InOrder}
+use Rattle.readers.specs.Laid.{startOf, laid, laidOver, listAt, InOrder}
 use Rattle.readers.specs.LaidLaws.{length-laid, list-there, in-order-there, in-order-more, start-least}
 use Rattle.readers.specs.Incidences.{Item, atomSlot, incidences, entriesOf}
 use Rattle.readers.specs.Readers.{readersOf}
 use Rattle.readers.specs.AtomNodes.{atomNodesOf}
-use Rattle.readers.specs.ReaderTable.{listOf, slots, readerWords, readerTable, built}
+use Rattle.readers.specs.ReaderTable.{listOf, slots, readerWords, built}
 use Rattle.readers.specs.Planned.{Planned}
-use Rattle.readers.specs.Placement.{Head, total, Zero, Counted, Summed, Started, behindLists}
+use Rattle.readers.specs.Placement.{Head, total, Zero, Counted, Summed, Started}
 use Rattle.readers.proofs.Few.{lists-room}
 use Rattle.readers.proofs.Placement.{total-start, head-map, head-self}
-use Rattle.readers.proofs.Readers.{table-filtered}
+use Rattle.readers.proofs.Readers.{lists-laid}
 
 drop-later : (a b : ℕ) (xs ys : List ℕ) → a ≤ b → drop a xs ≡ drop a ys → drop b xs ≡ drop b ys
 drop-later a b xs ys h e =
@@ -52,27 +52,23 @@ module _ (t : Counts) (nodes operands roots producers : List ℕ) (p : ℕ) (pla
   -- the passes leave the table built
   pub passes-build : (xs cleared counted summed words : List ℕ) → Head (slots t) (slots t + 1) Zero xs cleared
       → Head (slots t) (slots t + 1) (Counted all) cleared counted → Head (slots t) (slots t + 1) (Summed counted (slots t)) counted summed
-      → words ≡ behindLists all (slots t) summed → words ≡ built t nodes operands roots producers p xs
-  unfolding behindLists built
+      → words ≡ laidOver (λ s. entriesOf s all) (slots t) summed → words ≡ built t nodes operands roots producers p xs
+  unfolding laidOver built
   passes-build xs cleared counted summed words a b c e =
-      e ∙ rw (table-filtered t nodes operands roots producers p planned, length-laid (λ s. entriesOf s all) (slots t))
+      e ∙ rw (lists-laid t nodes operands roots producers p planned)
       (ap (λ r. laid (λ s. entriesOf s all) (slots t) ++ r)
-      (drop-later (slots t + 1) (startOf (λ s. entriesOf s all) (slots t) (slots t)) summed xs (start-least (λ s. entriesOf s all) (slots t) (slots t))
+      (drop-later (slots t + 1) (length (laid (λ s. entriesOf s all) (slots t))) summed xs
+      (omega (arith, length-laid (λ s. entriesOf s all) (slots t), start-least (λ s. entriesOf s all) (slots t) (slots t)))
       (c .behind ∙ b .behind ∙ a .behind)))
 
 -- ---- once built
-
-table-laid : (t : Counts) (nodes operands roots producers : List ℕ) (p : ℕ)
-    → laid (λ s. listOf t nodes operands roots producers p s) (slots t) ≡ readerTable t nodes operands roots producers p
-unfolding readerTable
-table-laid t nodes operands roots producers p = refl
 
 module _ (t : Counts) (nodes operands roots producers : List ℕ) (p : ℕ) (old words : List ℕ) (q : words ≡ built t nodes operands roots producers p old) where
   abbrev lists : ℕ → List ℕ
   lists s = listOf t nodes operands roots producers p s
 
-  front : words ≡ laid lists (slots t) ++ drop (length (readerTable t nodes operands roots producers p)) old
-  unfolding built readerTable
+  front : words ≡ laid lists (slots t) ++ drop (length (laid lists (slots t))) old
+  unfolding built laidOver
   front = q
 
   -- the part of node k is its readers
@@ -94,7 +90,7 @@ module _ (t : Counts) (nodes operands roots producers : List ℕ) (p : ℕ) (old
       in-order-more words (startOf lists (slots t) (slots t)) (readerWords t) s room (in-order-there lists (slots t) words _ front s l)
     where
       same : Planned t nodes operands roots producers p → laid lists (slots t) ≡ laid (λ r. entriesOf r (incidences t nodes operands roots producers p)) (slots t)
-      same h = table-laid t nodes operands roots producers p ∙ table-filtered t nodes operands roots producers p h
+      same h = lists-laid t nodes operands roots producers p h
 
       room : startOf lists (slots t) (slots t) ≤ readerWords t
       room =

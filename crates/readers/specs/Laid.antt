@@ -15,6 +15,10 @@ startOf f n s = n + 1 + length (joined f 0 s)
 unfoldable pub laid : (ℕ → List ℕ) → ℕ → List ℕ
 laid f n = joined (single (startOf f n)) 0 (n + 1) ++ joined f 0 n
 
+-- a table with these words at its front, and what was behind them
+unfoldable pub laidOver : (ℕ → List ℕ) → ℕ → List ℕ → List ℕ
+laidOver f n words = laid f n ++ drop (length (laid f n)) words
+
 -- the words of a table from a up to e
 abbrev pub part : List ℕ → ℕ → ℕ → List ℕ
 part words a e = take (e - a) (drop a words)

@@ -2,9 +2,9 @@
 -- Assumes nothing.
 use Prim.Native.Nat.{ℕ, zero, suc, _+_, _<_}
 use mathlib.Core.Path.{_≡_}
-use mathlib.Core.List.{List, _++_}
+use mathlib.Core.List.{List}
 use lib.ListN.{length, getD, drop}
-use Rattle.readers.specs.Laid.{startOf, laid}
+use Rattle.readers.specs.Laid.{startOf}
 use Rattle.readers.specs.Incidences.{Item, entriesOf}
 
 -- the first n + 1 words: where entries begin, and a word for each list of which P holds; from word b on nothing is altered
@@ -19,6 +19,7 @@ unfoldable pub total : List ℕ → ℕ → ℕ
 total words zero = 0
 total words (suc s) = total words s + getD words (s + 1) 0
 
+-- what the word x of list s is, pass by pass: 0, the number of entries, the sum of the words before it, where the list begins
 abbrev pub Zero : ℕ → ℕ → Type 0
 Zero s x = x ≡ 0
 
@@ -30,7 +31,3 @@ Summed words n s x = x ≡ n + 1 + total words s
 
 abbrev pub Started : List Item → ℕ → ℕ → ℕ → Type 0
 Started all n s x = x ≡ startOf (λ r. entriesOf r all) n s
-
--- every list laid whole, and what was behind them
-unfoldable pub behindLists : List Item → ℕ → List ℕ → List ℕ
-behindLists all n words = laid (λ r. entriesOf r all) n ++ drop (startOf (λ r. entriesOf r all) n n) words

@@ -4,11 +4,11 @@ ghost use mathlib.Core.List.{[], _∷_};
 ghost use Prim.Native.Nat.{_+_, _-_, _*_, _^_, _<_, _≤_};
 ghost use lib.ListN.{length, getD};
 ghost use Rattle.readers.specs.Reader.{nodeReader, producerReader, rootReader, readingOf};
-ghost use Rattle.readers.specs.Incidences.{item, atomSlot, operandItems, nodeItems, producerItems, rootItems, incidences};
+ghost use Rattle.readers.specs.Incidences.{item, atomSlot, operandItems, nodeItems, producerItems, rootItems, incidences, entriesOf};
 ghost use Rattle.readers.specs.Cursor.{listedAt, unitItems, units, At, Answers};
-ghost use Rattle.readers.specs.Laid.{listAt, InOrder, inOrder};
+ghost use Rattle.readers.specs.Laid.{laidOver, listAt, InOrder, inOrder};
 ghost use Rattle.readers.specs.Planned.{Planned};
-ghost use Rattle.readers.specs.Placement.{Head, total, Zero, Counted, Summed, Started, behindLists};
+ghost use Rattle.readers.specs.Placement.{Head, total, Zero, Counted, Summed, Started};
 ghost use Rattle.readers.specs.ReaderTable.{slots, readerWords, built};
 ghost use Rattle.theory.specs.Node.{nodeAt, span};
 ghost use Rattle.theory.specs.Limits.{Limited};
@@ -275,7 +275,7 @@ fn place(
     table: &mut [u64],
 )
     requires { ⌜ Planned counts (now nodes) (now operands) (now roots) (now producers) p × (readerWords counts ≤ length (now table)) × Head (slots counts) (slots counts + 1) (Started (incidences counts (now nodes) (now operands) (now roots) (now producers) p) (slots counts)) (now table) (now table) ⌝ }
-    ensures { λ _. ⌜ now (table .exit) ≡ behindLists (incidences counts (now (nodes .entry)) (now (operands .entry)) (now (roots .entry)) (now (producers .entry)) p) (slots counts) (now (table .entry)) ⌝ }
+    ensures { λ _. ⌜ now (table .exit) ≡ laidOver (λ s. entriesOf s (incidences counts (now (nodes .entry)) (now (operands .entry)) (now (roots .entry)) (now (producers .entry)) p)) (slots counts) (now (table .entry)) ⌝ }
 {
     let mut cursor = Cursor { unit: 0, index: 0 };
     loop {
