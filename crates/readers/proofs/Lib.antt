@@ -5,3 +5,4 @@ pub mod Placement
 pub mod Walk
 pub mod Readers
 pub mod Table
+pub mod Examples
