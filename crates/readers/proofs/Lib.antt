@@ -6,3 +6,4 @@ pub mod Walk
 pub mod Readers
 pub mod Table
 pub mod Examples
+pub mod Entries

@@ -83,7 +83,7 @@ unfolding occurrences
 none-occur k m [] h f = refl
 none-occur k m (o ∷ os) h f = ap (λ b. cond b (suc (occurrences k os)) (occurrences k os)) (ne-eqb o k (λ e. omega (arith, f .0))) ∙ none-occur k m os h (f .1)
 
-operands-lower : (t : Counts) (operands : List ℕ) (at m : ℕ) (node : Node) → NodeFormed t operands at m node → Each (λ o. o < m) (operandsOf operands node)
+pub operands-lower : (t : Counts) (operands : List ℕ) (at m : ℕ) (node : Node) → NodeFormed t operands at m node → Each (λ o. o < m) (operandsOf operands node)
 unfolding operandsOf
 operands-lower t operands at m (Atom a) f = tt
 operands-lower t operands at m False f = tt

@@ -21,11 +21,11 @@ use Rattle.readers.proofs.Rest.{rest-all}
 use Rattle.readers.specs.declared.Incidence.{Incidence}
 use Rattle.readers.specs.declared.Incidence.the-variants.{Next, Done}
 
-each-append : {A : Type 0} (P : A → Type 0) (xs ys : List A) → Each P xs → Each P ys → Each P (xs ++ ys)
+pub each-append : {A : Type 0} (P : A → Type 0) (xs ys : List A) → Each P xs → Each P ys → Each P (xs ++ ys)
 each-append P [] ys h k = k
 each-append P (x ∷ xs) ys h k = (h .0, each-append P xs ys (h .1) k)
 
-each-joined : {A : Type 0} (P : A → Type 0) (f : ℕ → List A) (i n : ℕ) → ((k : ℕ) → i ≤ k → k < i + n → Each P (f k)) → Each P (joined f i n)
+pub each-joined : {A : Type 0} (P : A → Type 0) (f : ℕ → List A) (i n : ℕ) → ((k : ℕ) → i ≤ k → k < i + n → Each P (f k)) → Each P (joined f i n)
 unfolding joined
 each-joined P f i zero h = tt
 each-joined P f i (suc n) h = each-append P (f i) _ (h i (omega arith) (omega arith)) (each-joined P f (i + 1) n (λ k a b. h k (omega arith) (omega arith)))

@@ -6,6 +6,7 @@ pub mod Readers
 pub mod AtomNodes
 pub mod ReaderTable
 pub mod Planned
+pub mod Proper
 pub mod Cursor
 pub mod LaidLaws
 pub mod Placement
