@@ -58,24 +58,24 @@ joined-places q g f i (suc n) h = go (q i) refl (joined-places q g f (i + 1) n (
 -- ---- one node
 
 -- occurrences among operands
-operands-listed : (k m : ℕ) (os : List ℕ) → entriesOf k (operandItems m os) ≡ replicate (occurrences k os) (nodeReader m)
+operand-entries : (k m : ℕ) (os : List ℕ) → entriesOf k (operandItems m os) ≡ replicate (occurrences k os) (nodeReader m)
 unfolding entriesOf operandItems occurrences
-operands-listed k m [] = refl
-operands-listed k m (o ∷ os) = go (eqb o k) (operands-listed k m os)
+operand-entries k m [] = refl
+operand-entries k m (o ∷ os) = go (eqb o k) (operand-entries k m os)
   where
     go : (b : Bool) → entriesOf k (operandItems m os) ≡ replicate (occurrences k os) (nodeReader m)
         → cond b (nodeReader m ∷ entriesOf k (operandItems m os)) (entriesOf k (operandItems m os)) ≡ replicate (cond b (suc (occurrences k os)) (occurrences k os)) (nodeReader m)
     go true e = ap (λ r. nodeReader m ∷ r) e
     go false e = e
 
-node-listed : (n : ℕ) (operands : List ℕ) (k m : ℕ) (node : Node) → k ≤ n → entriesOf k (nodeItems n operands m node) ≡ replicate (occurrences k (operandsOf operands node)) (nodeReader m)
+node-entries : (n : ℕ) (operands : List ℕ) (k m : ℕ) (node : Node) → k ≤ n → entriesOf k (nodeItems n operands m node) ≡ replicate (occurrences k (operandsOf operands node)) (nodeReader m)
 unfolding nodeItems operandsOf occurrences
-node-listed n operands k m (Atom a) h = entries-other k (atomSlot n a) m [] (λ e. omega arith) ∙ (unfold entriesOf in refl)
-node-listed n operands k m False h = unfold entriesOf in refl
-node-listed n operands k m (Implies l r) h = operands-listed k m (l ∷ r ∷ [])
-node-listed n operands k m (And s c) h = operands-listed k m (span operands s c)
-node-listed n operands k m (Or s c) h = operands-listed k m (span operands s c)
-node-listed n operands k m Unknown h = unfold entriesOf in refl
+node-entries n operands k m (Atom a) h = entries-other k (atomSlot n a) m [] (λ e. omega arith) ∙ (unfold entriesOf in refl)
+node-entries n operands k m False h = unfold entriesOf in refl
+node-entries n operands k m (Implies l r) h = operand-entries k m (l ∷ r ∷ [])
+node-entries n operands k m (And s c) h = operand-entries k m (span operands s c)
+node-entries n operands k m (Or s c) h = operand-entries k m (span operands s c)
+node-entries n operands k m Unknown h = unfold entriesOf in refl
 
 -- what is not among lower nodes does not occur
 none-occur : (k m : ℕ) (os : List ℕ) → m ≤ k → Each (λ o. o < m) os → occurrences k os ≡ 0
@@ -93,31 +93,31 @@ operands-lower t operands at m (Or s c) f = f .lower
 operands-lower t operands at m Unknown f = tt
 
 -- an atom's list gets its Atom nodes alone
-atom-listed : (t : Counts) (operands : List ℕ) (at a m : ℕ) (node : Node) → m < t .nodes → NodeFormed t operands at m node
+atom-entries : (t : Counts) (operands : List ℕ) (at a m : ℕ) (node : Node) → m < t .nodes → NodeFormed t operands at m node
     → entriesOf (atomSlot (t .nodes) a) (nodeItems (t .nodes) operands m node) ≡ cond (isAtomOf a node) (m ∷ []) []
 unfolding nodeItems operandsOf
-atom-listed t operands at a m (Atom b) l f = ⊎-elim same other (equal-or b a)
+atom-entries t operands at a m (Atom b) l f = ⊎-elim same other (equal-or b a)
   where
     same : b ≡ a → entriesOf (atomSlot (t .nodes) a) (item (atomSlot (t .nodes) b) m ∷ []) ≡ cond (eqb b a) (m ∷ []) []
     same e = rw (e, eq-eqb a a refl) (entries-here (atomSlot (t .nodes) a) m [] ∙ (unfold entriesOf in refl))
 
     other : (b ≡ a → ⊥) → entriesOf (atomSlot (t .nodes) a) (item (atomSlot (t .nodes) b) m ∷ []) ≡ cond (eqb b a) (m ∷ []) []
     other ne = entries-other (atomSlot (t .nodes) a) (atomSlot (t .nodes) b) m [] (λ e. ne (omega arith)) ∙ (unfold entriesOf in rw (ne-eqb b a ne))
-atom-listed t operands at a m False l f = unfold entriesOf in refl
-atom-listed t operands at a m (Implies x y) l f = operands-listed _ m (x ∷ y ∷ []) ∙ ap (λ c. replicate c (nodeReader m)) (none-occur _ m (x ∷ y ∷ []) (omega arith) (f .0, (f .1, tt)))
-atom-listed t operands at a m (And s c) l f = operands-listed _ m (span operands s c) ∙ ap (λ c. replicate c (nodeReader m)) (none-occur _ m (span operands s c) (omega arith) (f .lower))
-atom-listed t operands at a m (Or s c) l f = operands-listed _ m (span operands s c) ∙ ap (λ c. replicate c (nodeReader m)) (none-occur _ m (span operands s c) (omega arith) (f .lower))
-atom-listed t operands at a m Unknown l f = unfold entriesOf in refl
+atom-entries t operands at a m False l f = unfold entriesOf in refl
+atom-entries t operands at a m (Implies x y) l f = operand-entries _ m (x ∷ y ∷ []) ∙ ap (λ c. replicate c (nodeReader m)) (none-occur _ m (x ∷ y ∷ []) (omega arith) (f .0, (f .1, tt)))
+atom-entries t operands at a m (And s c) l f = operand-entries _ m (span operands s c) ∙ ap (λ c. replicate c (nodeReader m)) (none-occur _ m (span operands s c) (omega arith) (f .lower))
+atom-entries t operands at a m (Or s c) l f = operand-entries _ m (span operands s c) ∙ ap (λ c. replicate c (nodeReader m)) (none-occur _ m (span operands s c) (omega arith) (f .lower))
+atom-entries t operands at a m Unknown l f = unfold entriesOf in refl
 
 -- ---- one producer, one root position
 
-single-listed : (s r e : ℕ) → entriesOf s (item r e ∷ []) ≡ cond (eqb r s) (e ∷ []) []
+single-entries : (s r e : ℕ) → entriesOf s (item r e ∷ []) ≡ cond (eqb r s) (e ∷ []) []
 unfolding entriesOf
-single-listed s r e = refl
+single-entries s r e = refl
 
-body-listed : (k i b : ℕ) → entriesOf k (bodyItems i b) ≡ cond (eqb b (k + 1)) (producerReader i ∷ []) []
-body-listed k i zero = rw (ne-eqb 0 (k + 1) (λ e. omega arith)) (unfold entriesOf in refl)
-body-listed k i (suc b) = single-listed k b (producerReader i) ∙ ap (λ c. cond c (producerReader i ∷ []) []) (go (eqb b k) refl)
+body-entries : (k i b : ℕ) → entriesOf k (bodyItems i b) ≡ cond (eqb b (k + 1)) (producerReader i ∷ []) []
+body-entries k i zero = rw (ne-eqb 0 (k + 1) (λ e. omega arith)) (unfold entriesOf in refl)
+body-entries k i (suc b) = single-entries k b (producerReader i) ∙ ap (λ c. cond c (producerReader i ∷ []) []) (go (eqb b k) refl)
   where
     go : (c : Bool) → eqb b k ≡ c → eqb b k ≡ eqb (suc b) (k + 1)
     go true e = e ∙ sym (eq-eqb (suc b) (k + 1) (omega (arith, eqb-true b k e)))
@@ -146,9 +146,9 @@ module _ (t : Counts) (nodes operands roots producers : List ℕ) (p : ℕ) wher
   unfolding readersOf readingNode producerItems rootItems
   readers-filtered k l =
       sym (parts k
-      ∙ ap₂ _++_ (joined-agree _ (readingNode nodes operands k) 0 (t .nodes) (λ m a b. node-listed (t .nodes) operands k m (nodeAt nodes m) l))
-      (ap₂ _++_ (joined-places (λ i. eqb (getD producers (4 * i + 1) 0) (k + 1)) producerReader _ 0 p (λ i a b. body-listed k i (getD producers (4 * i + 1) 0)))
-      (joined-places (λ i. eqb (getD roots i 0) k) rootReader _ 0 (t .roots) (λ i a b. single-listed k (getD roots i 0) (rootReader i)))))
+      ∙ ap₂ _++_ (joined-agree _ (readingNode nodes operands k) 0 (t .nodes) (λ m a b. node-entries (t .nodes) operands k m (nodeAt nodes m) l))
+      (ap₂ _++_ (joined-places (λ i. eqb (getD producers (4 * i + 1) 0) (k + 1)) producerReader _ 0 p (λ i a b. body-entries k i (getD producers (4 * i + 1) 0)))
+      (joined-places (λ i. eqb (getD roots i 0) k) rootReader _ 0 (t .roots) (λ i a b. single-entries k (getD roots i 0) (rootReader i)))))
 
   module _ (h : Planned t nodes operands roots producers p) where
     -- producers and roots read nodes alone
@@ -157,7 +157,7 @@ module _ (t : Counts) (nodes operands roots producers : List ℕ) (p : ℕ) wher
     producers-none s l =
         joined-none _ 0 p
         (λ i a b.
-        body-listed s i (getD producers (4 * i + 1) 0)
+        body-entries s i (getD producers (4 * i + 1) 0)
         ∙ ap (λ c. cond c (producerReader i ∷ []) []) (ne-eqb (getD producers (4 * i + 1) 0) (s + 1) (λ e. omega (arith, h .body i (omega arith)))))
 
     roots-none : (s : ℕ) → t .nodes ≤ s → joined (λ i. entriesOf s (rootItems roots i)) 0 (t .roots) ≡ []
@@ -165,7 +165,7 @@ module _ (t : Counts) (nodes operands roots producers : List ℕ) (p : ℕ) wher
     roots-none s l =
         joined-none _ 0 (t .roots)
         (λ i a b.
-        single-listed s (getD roots i 0) (rootReader i)
+        single-entries s (getD roots i 0) (rootReader i)
         ∙ ap (λ c. cond c (rootReader i ∷ []) []) (ne-eqb (getD roots i 0) s (λ e. omega (arith, h .root i (omega arith)))))
 
     nodes-alone : (s : ℕ) → t .nodes ≤ s → entriesOf s stream ≡ joined (λ m. entriesOf s (ofNode m)) 0 (t .nodes)
@@ -179,7 +179,7 @@ module _ (t : Counts) (nodes operands roots producers : List ℕ) (p : ℕ) wher
     atoms-filtered a =
         sym (nodes-alone (atomSlot (t .nodes) a) (omega arith)
         ∙ joined-places (λ m. isAtomOf a (nodeAt nodes m)) (λ m. m) _ 0 (t .nodes)
-        (λ m _ b. atom-listed t operands _ a m (nodeAt nodes m) (omega arith) (h .tables .formed m (omega arith)))
+        (λ m _ b. atom-entries t operands _ a m (nodeAt nodes m) (omega arith) (h .tables .formed m (omega arith)))
         ∙ map-id (places (λ m. isAtomOf a (nodeAt nodes m)) 0 (t .nodes)))
 
     -- nothing is listed between the nodes' lists and the atoms'
@@ -188,7 +188,7 @@ module _ (t : Counts) (nodes operands roots producers : List ℕ) (p : ℕ) wher
         nodes-alone (t .nodes) (omega arith)
         ∙ joined-none _ 0 (t .nodes)
         (λ m a b.
-        node-listed (t .nodes) operands (t .nodes) m (nodeAt nodes m) (omega arith)
+        node-entries (t .nodes) operands (t .nodes) m (nodeAt nodes m) (omega arith)
         ∙ ap (λ c. replicate c (nodeReader m))
         (none-occur (t .nodes) m _ (omega arith) (operands-lower t operands _ m (nodeAt nodes m) (h .tables .formed m (omega arith)))))
 

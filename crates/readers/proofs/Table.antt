@@ -4,7 +4,7 @@ use Prim.Native.Nat.{ℕ, _+_, _-_, _^_, _<_, _≤_}
 use native.Mathlib.Omega.{arith}
 use mathlib.Core.Path.{_≡_, refl, ap, sym, _∙_}
 use mathlib.Core.List.{List, _++_}
-use lib.ListN.{length, drop}
+use lib.ListN.{length, drop, length-append, length-drop}
 use lib.Seq.{drop-drop}
 use borrow.Author.Tests.{lt-ltb, le-ltb}
 use Rattle.theory.specs.declared.Counts.{Counts}
@@ -84,20 +84,34 @@ module _ (t : Counts) (nodes operands roots producers : List ℕ) (p : ℕ) (old
       list-there lists (slots t) words _ front (atomSlot (t .nodes) a) (omega arith)
       ∙ rw (le-ltb (atomSlot (t .nodes) a) (t .nodes) (omega arith), lt-ltb (t .nodes) (atomSlot (t .nodes) a) (omega arith), e)
 
+  lists-within : Planned t nodes operands roots producers p → startOf lists (slots t) (slots t) ≤ readerWords t
+  lists-within planned =
+      omega (
+        arith,
+        lists-room t nodes operands roots producers p planned,
+        length-laid lists (slots t),
+        length-laid (λ r. entriesOf r (incidences t nodes operands roots producers p)) (slots t),
+        ap length (lists-laid t nodes operands roots producers p planned),
+      )
+
   -- every two starts are in order and within the words that a lent table must have
   pub built-in-order : Planned t nodes operands roots producers p → (s : ℕ) → s < slots t → InOrder words (readerWords t) s
   built-in-order planned s l =
-      in-order-more words (startOf lists (slots t) (slots t)) (readerWords t) s room (in-order-there lists (slots t) words _ front s l)
-    where
-      same : Planned t nodes operands roots producers p → laid lists (slots t) ≡ laid (λ r. entriesOf r (incidences t nodes operands roots producers p)) (slots t)
-      same h = lists-laid t nodes operands roots producers p h
+      in-order-more words (startOf lists (slots t) (slots t)) (readerWords t) s (lists-within planned) (in-order-there lists (slots t) words _ front s l)
 
-      room : startOf lists (slots t) (slots t) ≤ readerWords t
-      room =
-          omega (
-            arith,
-            lists-room t nodes operands roots producers p planned,
-            length-laid lists (slots t),
-            length-laid (λ r. entriesOf r (incidences t nodes operands roots producers p)) (slots t),
-            ap length (same planned),
-          )
+  pub built-length : Planned t nodes operands roots producers p → readerWords t ≤ length old → length words ≡ length old
+  built-length planned h =
+      omega (
+        arith,
+        ap length front,
+        length-append (laid lists (slots t)) (drop (length (laid lists (slots t))) old),
+        length-drop (length (laid lists (slots t))) old,
+        length-laid lists (slots t),
+        lists-within planned,
+      )
+
+  -- so list s may be taken
+  pub built-ready : Planned t nodes operands roots producers p → readerWords t ≤ length old → (s : ℕ) → s < slots t → (s + 1 < length words) × InOrder words (length words) s
+  built-ready planned h s l =
+      let e = built-length planned h in
+      (omega (arith, e), in-order-more words (readerWords t) (length words) s (omega (arith, e)) (built-in-order planned s l))

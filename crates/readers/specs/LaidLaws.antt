@@ -7,7 +7,7 @@ use native.Mathlib.Omega.{arith}
 use native.Mathlib.Decide.{le-ind}
 use mathlib.Core.Path.{_≡_, refl, ap, ap₂, sym, _∙_}
 use mathlib.Core.Bool.{Bool, true, _&&_}
-use mathlib.Core.List.{List, [], _∷_, _++_, append-assoc}
+use mathlib.Core.List.{List, [], _∷_, _++_, append-nil, append-assoc}
 use lib.Dec.{leb}
 use lib.ListN.{length, getD, take, drop, length-append, length-drop, take-append-drop, List·getD-append}
 use lib.Seq.{take-add, drop-at, ext-getD, length-take-le, getD-take, getD-drop, take-append-seam}
@@ -74,11 +74,7 @@ module _ (f : ℕ → List ℕ) (n : ℕ) where
 
     front-is : (s : ℕ) → s ≤ n → take (start s) words ≡ joined (single start) 0 (n + 1) ++ joined f 0 s
     unfolding joined
-    front-is zero h = ap (λ k. take k words) start-zero ∙ head-is ∙ sym (none (joined (single start) 0 (n + 1)))
-      where
-        none : (l : List ℕ) → l ++ [] ≡ l
-        none [] = refl
-        none (x ∷ xs) = ap (λ r. x ∷ r) (none xs)
+    front-is zero h = ap (λ k. take k words) start-zero ∙ head-is ∙ sym (append-nil (joined (single start) 0 (n + 1)))
     front-is (suc s) h = go (front-is s (omega arith))
       where
         go : take (start s) words ≡ joined (single start) 0 (n + 1) ++ joined f 0 s → take (start (suc s)) words ≡ joined (single start) 0 (n + 1) ++ joined f 0 (suc s)
