@@ -1,8 +1,8 @@
 -- What the lists of well-formed tables hold: every reader is a node above, a producer or a root position; every atom node is an Atom of that atom.
 -- Assumes nothing.
-use Prim.Native.Nat.{ℕ, zero, suc, _+_, _*_, _^_, _<_, _≤_}
+use Prim.Native.Nat.{ℕ, zero, suc, _+_, _*_, _<_, _≤_}
 use native.Mathlib.Omega.{arith}
-use mathlib.Core.Path.{_≡_, refl, ap, sym, _∙_}
+use mathlib.Core.Path.{_≡_, refl}
 use mathlib.Core.Bool.{Bool, true, false, cond}
 use mathlib.Core.List.{List, [], _∷_, _++_, map, map-id}
 use lib.Dec.{eqb}
@@ -12,9 +12,8 @@ use Rattle.base.specs.Each.{Each}
 use Rattle.base.specs.Places.{places, places-yes, places-no}
 use Rattle.theory.specs.Node.{nodeAt, operandsOf}
 use Rattle.theory.specs.declared.Counts.{Counts}
-use Rattle.theory.specs.declared.Node.{Node}
 use Rattle.readers.specs.Joined.{joined}
-use Rattle.readers.specs.Reader.{packed, byTag, readingOf, packed-read, nodeReader, producerReader, rootReader}
+use Rattle.readers.specs.Reader.{readingOf, packed-read, nodeReader, producerReader, rootReader}
 use Rattle.readers.specs.Readers.{occurrences, readingNode, readersOf}
 use Rattle.readers.specs.AtomNodes.{isAtomOf, atomNodesOf}
 use Rattle.readers.specs.Planned.{Planned}

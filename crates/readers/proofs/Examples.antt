@@ -2,7 +2,7 @@
 -- Assumes nothing.
 use Prim.Native.Nat.{ℕ}
 use mathlib.Core.Path.{_≡_, refl}
-use mathlib.Core.List.{List, [], _∷_}
+use mathlib.Core.List.{[], _∷_}
 use Rattle.base.specs.Places.{places}
 use Rattle.theory.specs.Node.{nodeAt, span, operandsOf}
 use Rattle.theory.specs.declared.Counts.{Counts}

@@ -33,7 +33,9 @@ add-t16 : tie.Need-add-t16 Inv-loop μ-loop
 add-t16 c = omega (arith, listed-within _ _ _ _ (sym (c .before .before .before .unit-incidence .ensures) ∙ c .before .listed .given .1), unit-few _ _ _ _ _ _ (c .before .before .before .before .before .before .before .before .before .before .before .before .pre .0) (c .before .before .before .before .before .loop .unit), c .before .before .before .before .before .before .before .before .before .before .before .before .pre .0 .limited .operands)
 
 returns : tie.Need-returns Inv-loop μ-loop
-returns c = (c .before .before .before .before .before .loop .inv .2 ∙ rest-next _ _ _ _ _ _ _ _ (rw (c .before .before .before .before .before .loop .inv .0) at (c .before .before .before .before .loop-test .taken)) (c .before .before .before .before .before .loop .inv .1) _ _ (sym (c .before .before .before .unit-incidence .ensures) ∙ c .before .listed .given .1) .0, rest-next _ _ _ _ _ _ _ _ (rw (c .before .before .before .before .before .loop .inv .0) at (c .before .before .before .before .loop-test .taken)) (c .before .before .before .before .before .loop .inv .1) _ _ (sym (c .before .before .before .unit-incidence .ensures) ∙ c .before .listed .given .1) .1)
+returns c =
+    let n = rest-next _ _ _ _ _ _ _ _ (rw (c .before .before .before .before .before .loop .inv .0) at (c .before .before .before .before .loop-test .taken)) (c .before .before .before .before .before .loop .inv .1) _ _ (sym (c .before .before .before .unit-incidence .ensures) ∙ c .before .listed .given .1) in
+    (c .before .before .before .before .before .loop .inv .2 ∙ n .0, n .1)
 
 enum-told : tie.Need-enum-told Inv-loop μ-loop
 enum-told c = search needs
@@ -45,7 +47,9 @@ loop-less : tie.Need-loop-less Inv-loop μ-loop
 loop-less c = search needs
 
 loop-again : tie.Need-loop-again Inv-loop μ-loop
-loop-again c = (c .before .before .before .before .loop .inv .0, rest-past _ _ _ _ _ _ _ _ (rw (c .before .before .before .before .loop .inv .0) at (c .before .before .before .loop-test .taken)) (c .before .before .before .before .loop .inv .1) (sym (c .before .before .unit-incidence .ensures) ∙ c .enum-told .given .1) .1, c .before .before .before .before .loop .inv .2 ∙ rest-past _ _ _ _ _ _ _ _ (rw (c .before .before .before .before .loop .inv .0) at (c .before .before .before .loop-test .taken)) (c .before .before .before .before .loop .inv .1) (sym (c .before .before .unit-incidence .ensures) ∙ c .enum-told .given .1) .0)
+loop-again c =
+    let n = rest-past _ _ _ _ _ _ _ _ (rw (c .before .before .before .before .loop .inv .0) at (c .before .before .before .loop-test .taken)) (c .before .before .before .before .loop .inv .1) (sym (c .before .before .unit-incidence .ensures) ∙ c .enum-told .given .1) in
+    (c .before .before .before .before .loop .inv .0, n .1, c .before .before .before .before .loop .inv .2 ∙ n .0)
 
 returns-2 : tie.Need-returns-2 Inv-loop μ-loop
 returns-2 c = c .before .loop .inv .2 ∙ rest-done _ _ _ _ _ _ _ _ (rw (c .before .loop .inv .0) at (c .loop-test .left))

@@ -1,3 +1,4 @@
+use Prim.Native.Nat.{_<_}
 use borrow.Author.Needs.{needs}
 use native.Mathlib.Omega.{arith}
 use lib.ListN.{length, length-set}
@@ -25,6 +26,10 @@ took : (c : tie.After-known-told Inv-loop μ-loop) →
     Taken (a .counts) (a .nodes .now) (a .operands .now) (a .roots .now) (a .producers .now) (a .p) (cursor .unit) (cursor .index) (g .0) (g .1 .0) (g .1 .1 .0))
 took c = taken _ _ _ _ _ _ _ _ _ (c .before .before .before .next-incidence .ensures) _ _ _ (c .before .step .given .1) (c .before .before .before .before .loop .inv .0)
 
+-- its place stands in the table
+within : (c : tie.After-word64 Inv-loop μ-loop) → c .word64 .result < length (c .before .before .before .before .before .before .loop .table)
+within c = rw (c .word64 .ensures) (place-within _ _ _ _ _ _ _ _ (took (c .before .before) .first) (took (c .before .before) .slot) (table-room _ _ _ _ _ _ (c .before .before .before .before .before .before .before .before .before .before .before .before .pre .0) _ (c .before .before .before .before .before .before .before .before .before .before .before .before .pre .1)) (c .before .before .before .before .before .before .loop .inv .1))
+
 loop-holds : tie.Need-loop-holds Inv-loop μ-loop
 loop-holds c = (ahead-all _ _ _ _ _ _ (c .before .before .before .before .before .pre .0), place-none _ _ _ _ (rest-all _ _ _ _ _ _) (c .before .before .before .before .before .pre .2))
 
@@ -50,13 +55,13 @@ word64-requires : tie.Need-word64-requires Inv-loop μ-loop
 word64-requires c κs = omega (arith, (took (c .before) .slot), c .before .before .before .before .before .before .before .before .before .before .before .pre .1, c .before .before .before .before .before .loop .inv .1 .head .long)
 
 mul-table : tie.Need-mul-table Inv-loop μ-loop
-mul-table c = omega (arith, c .word64 .ensures, place-within _ _ _ _ _ _ _ _ (took (c .before .before) .first) (took (c .before .before) .slot) (table-room _ _ _ _ _ _ (c .before .before .before .before .before .before .before .before .before .before .before .before .pre .0) _ (c .before .before .before .before .before .before .before .before .before .before .before .before .pre .1)) (c .before .before .before .before .before .before .loop .inv .1), c .before .before .before .before .before .before .loop .inv .1 .head .long, c .before .before .before .before .before .before .before .before .before .before .before .before .good)
+mul-table c = omega (arith, within c, c .before .before .before .before .before .before .loop .inv .1 .head .long, c .before .before .before .before .before .before .before .before .before .before .before .before .good)
 
 slice-write-table : tie.Need-slice-write-table Inv-loop μ-loop
-slice-write-table c = rw (c .word64 .ensures) (place-within _ _ _ _ _ _ _ _ (took (c .before .before) .first) (took (c .before .before) .slot) (table-room _ _ _ _ _ _ (c .before .before .before .before .before .before .before .before .before .before .before .before .pre .0) _ (c .before .before .before .before .before .before .before .before .before .before .before .before .pre .1)) (c .before .before .before .before .before .before .loop .inv .1))
+slice-write-table c = within c
 
 add-table : tie.Need-add-table Inv-loop μ-loop
-add-table c = omega (arith, c .word64 .ensures, place-within _ _ _ _ _ _ _ _ (took (c .before .before) .first) (took (c .before .before) .slot) (table-room _ _ _ _ _ _ (c .before .before .before .before .before .before .before .before .before .before .before .before .pre .0) _ (c .before .before .before .before .before .before .before .before .before .before .before .before .pre .1)) (c .before .before .before .before .before .before .loop .inv .1), c .before .before .before .before .before .before .loop .inv .1 .head .long, c .before .before .before .before .before .before .before .before .before .before .before .before .good)
+add-table c = omega (arith, within c, c .before .before .before .before .before .before .loop .inv .1 .head .long, c .before .before .before .before .before .before .before .before .before .before .before .before .good)
 
 add-table-2 : tie.Need-add-table-2 Inv-loop μ-loop
 add-table-2 c = omega (arith, (took (c .before .before) .slot), c .before .before .before .before .before .before .before .before .before .before .before .before .pre .0 .limited)
