@@ -1,0 +1,12 @@
+pub mod Joined
+pub mod Laid
+pub mod Reader
+pub mod Incidences
+pub mod Readers
+pub mod AtomNodes
+pub mod ReaderTable
+pub mod Planned
+pub mod Proper
+pub mod Cursor
+pub mod LaidLaws
+pub mod Placement

@@ -1,0 +1,353 @@
+// The reader lists: who reads each node's truth. A port of tight/readers.rs.
+ghost use mathlib.Core.Path.{_≡_};
+ghost use mathlib.Core.List.{[], _∷_};
+ghost use Prim.Native.Nat.{_+_, _-_, _*_, _^_, _<_, _≤_};
+ghost use lib.ListN.{length, getD};
+ghost use Rattle.readers.specs.Reader.{nodeReader, producerReader, rootReader, readingOf};
+ghost use Rattle.readers.specs.Incidences.{item, atomSlot, operandItems, nodeItems, producerItems, rootItems, incidences, entriesOf};
+ghost use Rattle.readers.specs.Cursor.{listedAt, unitItems, units, At, Answers};
+ghost use Rattle.readers.specs.Laid.{laidOver, listAt, InOrder, inOrder};
+ghost use Rattle.readers.specs.Planned.{Planned};
+ghost use Rattle.readers.specs.Placement.{Head, total, Zero, Counted, Summed, Started};
+ghost use Rattle.readers.specs.ReaderTable.{slots, readerWords, built};
+ghost use Rattle.theory.specs.Node.{nodeAt, span};
+ghost use Rattle.theory.specs.Limits.{Limited};
+ghost use Rattle.theory.specs.WellFormed.{NodeTables};
+use theory::Counts;
+use theory::Node;
+
+// A packed reader: its tag in the top two bits, its index below.
+pub struct Reader(pub u64);
+
+pub enum Reading {
+    Node(usize),
+    Producer(usize),
+    Root(usize),
+    Unknown,
+}
+
+impl Reader {
+    pub const SHIFT: u32 = 62;
+
+    pub fn node(i: usize) -> Reader
+        requires { ⌜ i < 2 ^ 62 ⌝ }
+        ensures { λ r. ⌜ r .0 ≡ nodeReader i ⌝ }
+    {
+        Reader(i as u64)
+    }
+
+    pub fn producer(i: usize) -> Reader
+        requires { ⌜ i < 2 ^ 62 ⌝ }
+        ensures { λ r. ⌜ r .0 ≡ producerReader i ⌝ }
+    {
+        Reader((2u64 << Reader::SHIFT) | (i as u64))
+    }
+
+    pub fn root(i: usize) -> Reader
+        requires { ⌜ i < 2 ^ 62 ⌝ }
+        ensures { λ r. ⌜ r .0 ≡ rootReader i ⌝ }
+    {
+        Reader((3u64 << Reader::SHIFT) | (i as u64))
+    }
+
+    // What any word says.
+    pub fn reading(self) -> Reading
+        ensures { λ r. ⌜ r ≡ readingOf (self .0) ⌝ }
+    {
+        let word = self.0;
+        let index = (word % (1u64 << Reader::SHIFT)) as usize;
+        match word >> Reader::SHIFT {
+            0 => Reading::Node(index),
+            2 => Reading::Producer(index),
+            3 => Reading::Root(index),
+            _ => Reading::Unknown,
+        }
+    }
+}
+
+// Where a pass over the incidences stands: nodes, producers and root positions numbered through, and how many incidences of that one are behind.
+pub struct Cursor {
+    pub unit: usize,
+    pub index: usize,
+}
+
+// One incidence of a node, a producer or a root position: the list's number and the entry.
+pub enum Listed {
+    Entry(usize, u64),
+    Past,
+}
+
+// The next incidence and where the pass stands behind it.
+pub enum Incidence {
+    Next(usize, u64, Cursor),
+    Done,
+}
+
+// Incidence j of an And or Or: operand j of its span.
+fn operand_incidence(operands: &[u32], k: usize, start: usize, count: usize, j: usize) -> Listed
+    requires { ⌜ (start + count ≤ length (now operands)) × (k < 2 ^ 62) ⌝ }
+    ensures { λ r. ⌜ r ≡ listedAt (operandItems k (span (now (operands .entry)) start count)) j ⌝ }
+{
+    if j < count {
+        Listed::Entry(words::word(operands, start + j), Reader::node(k).0)
+    } else {
+        Listed::Past
+    }
+}
+
+// Incidence j of a node that reads two.
+fn implies_incidence(k: usize, left: usize, right: usize, j: usize) -> Listed
+    requires { ⌜ k < 2 ^ 62 ⌝ }
+    ensures { λ r. ⌜ r ≡ listedAt (operandItems k (left ∷ right ∷ [])) j ⌝ }
+{
+    match j {
+        0 => Listed::Entry(left, Reader::node(k).0),
+        1 => Listed::Entry(right, Reader::node(k).0),
+        _ => Listed::Past,
+    }
+}
+
+// Incidence j of what has a single one.
+fn only_incidence(slot: usize, entry: u64, j: usize) -> Listed
+    ensures { λ r. ⌜ r ≡ listedAt (item slot entry ∷ []) j ⌝ }
+{
+    if j == 0 {
+        Listed::Entry(slot, entry)
+    } else {
+        Listed::Past
+    }
+}
+
+// Incidence j of node k.
+fn node_incidence(counts: Counts, nodes: &[u32], operands: &[u32], k: usize, j: usize) -> Listed
+    requires { ⌜ (k < counts .nodes) × Limited counts × NodeTables counts (now nodes) (now operands) ⌝ }
+    ensures { λ r. ⌜ r ≡ listedAt (nodeItems (counts .nodes) (now (operands .entry)) k (nodeAt (now (nodes .entry)) k)) j ⌝ }
+{
+    match theory::view(nodes, k) {
+        Node::Atom(a) => only_incidence(counts.nodes + 1 + a, k as u64, j),
+        Node::False => Listed::Past,
+        Node::Implies(left, right) => implies_incidence(k, left, right, j),
+        Node::And(s, c) => operand_incidence(operands, k, s, c, j),
+        Node::Or(s, c) => operand_incidence(operands, k, s, c, j),
+        Node::Unknown => Listed::Past,
+    }
+}
+
+// Incidence j of producer i.
+fn producer_incidence(producers: &[u32], i: usize, j: usize) -> Listed
+    requires { ⌜ (4 * i + 1 < length (now producers)) × (i < 2 ^ 60) ⌝ }
+    ensures { λ r. ⌜ r ≡ listedAt (producerItems (now (producers .entry)) i) j ⌝ }
+{
+    let body = words::word(producers, 4 * i + 1);
+    if body == 0 {
+        Listed::Past
+    } else {
+        only_incidence(body - 1, Reader::producer(i).0, j)
+    }
+}
+
+// Incidence j of root position i.
+fn root_incidence(roots: &[u32], i: usize, j: usize) -> Listed
+    requires { ⌜ (i < length (now roots)) × (i < 2 ^ 62) ⌝ }
+    ensures { λ r. ⌜ r ≡ listedAt (rootItems (now (roots .entry)) i) j ⌝ }
+{
+    only_incidence(words::word(roots, i), Reader::root(i).0, j)
+}
+
+// Incidence j of number u: nodes, then p producers, then root positions.
+fn unit_incidence(
+    counts: Counts,
+    nodes: &[u32],
+    operands: &[u32],
+    roots: &[u32],
+    producers: &[u32],
+    p: usize,
+    u: usize,
+    j: usize,
+) -> Listed
+    requires { ⌜ Planned counts (now nodes) (now operands) (now roots) (now producers) p × (u < units counts p) ⌝ }
+    ensures { λ r. ⌜ r ≡ listedAt (unitItems counts (now (nodes .entry)) (now (operands .entry)) (now (roots .entry)) (now (producers .entry)) p u) j ⌝ }
+{
+    let n = counts.nodes;
+    if u < n {
+        return node_incidence(counts, nodes, operands, u, j);
+    }
+    if u < n + p {
+        return producer_incidence(producers, u - n, j);
+    }
+    root_incidence(roots, u - (n + p), j)
+}
+
+// The next incidence in order: nodes, then p producers, then root positions.
+fn next_incidence(
+    counts: Counts,
+    nodes: &[u32],
+    operands: &[u32],
+    roots: &[u32],
+    producers: &[u32],
+    p: usize,
+    cursor: Cursor,
+) -> Incidence
+    requires { ⌜ Planned counts (now nodes) (now operands) (now roots) (now producers) p × At counts (now nodes) (now operands) (now roots) (now producers) p (cursor .unit) (cursor .index) ⌝ }
+    ensures { λ r. ⌜ Answers counts (now (nodes .entry)) (now (operands .entry)) (now (roots .entry)) (now (producers .entry)) p (cursor .unit) (cursor .index) r ⌝ }
+{
+    let end = counts.nodes + p + counts.roots;
+    let mut unit = cursor.unit;
+    let mut index = cursor.index;
+    while unit < end {
+        let listed = unit_incidence(counts, nodes, operands, roots, producers, p, unit, index);
+        if let Listed::Entry(slot, entry) = listed {
+            return Incidence::Next(
+                slot,
+                entry,
+                Cursor {
+                    unit,
+                    index: index + 1,
+                },
+            );
+        }
+        unit += 1;
+        index = 0;
+    }
+    Incidence::Done
+}
+
+// The words of n lists begin: where entries begin, then 0 for each list.
+fn clear(table: &mut [u64], n: usize)
+    requires { ⌜ n + 1 ≤ length (now table) ⌝ }
+    ensures { λ _. ⌜ Head n (n + 1) Zero (now (table .entry)) (now (table .exit)) ⌝ }
+{
+    table[0] = (n + 1) as u64;
+    let mut i = 0;
+    while i < n {
+        table[i + 1] = 0;
+        i += 1;
+    }
+}
+
+// Each list's word counts its entries: the first pass over the incidences.
+fn count(
+    counts: Counts,
+    nodes: &[u32],
+    operands: &[u32],
+    roots: &[u32],
+    producers: &[u32],
+    p: usize,
+    table: &mut [u64],
+)
+    requires { ⌜ Planned counts (now nodes) (now operands) (now roots) (now producers) p × (slots counts + 1 ≤ length (now table)) × Head (slots counts) (slots counts + 1) Zero (now table) (now table) ⌝ }
+    ensures { λ _. ⌜ Head (slots counts) (slots counts + 1) (Counted (incidences counts (now (nodes .entry)) (now (operands .entry)) (now (roots .entry)) (now (producers .entry)) p)) (now (table .entry)) (now (table .exit)) ⌝ }
+{
+    let mut cursor = Cursor { unit: 0, index: 0 };
+    loop {
+        let step = next_incidence(counts, nodes, operands, roots, producers, p, cursor);
+        let Incidence::Next(slot, _, next) = step else {
+            return;
+        };
+        table[slot + 1] = table[slot + 1] + 1;
+        cursor = next;
+    }
+}
+
+// Counts become starts: a list's word is the sum of those before it, from where entries begin.
+fn sum(table: &mut [u64], n: usize)
+    requires { ⌜ (n + 1 ≤ length (now table)) × (n + 1 + total (now table) n < 2 ^ 62) × (getD (now table) 0 0 ≡ n + 1) ⌝ }
+    ensures { λ _. ⌜ Head n (n + 1) (Summed (now (table .entry)) n) (now (table .entry)) (now (table .exit)) ⌝ }
+{
+    let mut start = n + 1;
+    let mut i = 0;
+    while i < n {
+        let size = words::word64(table, i + 1);
+        table[i + 1] = start as u64;
+        start = start + size;
+        i += 1;
+    }
+}
+
+// Each entry goes where its list goes on: the second pass over the incidences.
+fn place(
+    counts: Counts,
+    nodes: &[u32],
+    operands: &[u32],
+    roots: &[u32],
+    producers: &[u32],
+    p: usize,
+    table: &mut [u64],
+)
+    requires { ⌜ Planned counts (now nodes) (now operands) (now roots) (now producers) p × (readerWords counts ≤ length (now table)) × Head (slots counts) (slots counts + 1) (Started (incidences counts (now nodes) (now operands) (now roots) (now producers) p) (slots counts)) (now table) (now table) ⌝ }
+    ensures { λ _. ⌜ now (table .exit) ≡ laidOver (λ s. entriesOf s (incidences counts (now (nodes .entry)) (now (operands .entry)) (now (roots .entry)) (now (producers .entry)) p)) (slots counts) (now (table .entry)) ⌝ }
+{
+    let mut cursor = Cursor { unit: 0, index: 0 };
+    loop {
+        let step = next_incidence(counts, nodes, operands, roots, producers, p, cursor);
+        let Incidence::Next(slot, entry, next) = step else {
+            return;
+        };
+        let at = words::word64(table, slot + 1);
+        table[at] = entry;
+        table[slot + 1] = (at + 1) as u64;
+        cursor = next;
+    }
+}
+
+// The reader table into the front of table, in two passes over the incidences.
+pub fn build(
+    counts: Counts,
+    nodes: &[u32],
+    operands: &[u32],
+    roots: &[u32],
+    producers: &[u32],
+    p: usize,
+    table: &mut [u64],
+)
+    requires { ⌜ Planned counts (now nodes) (now operands) (now roots) (now producers) p × (readerWords counts ≤ length (now table)) ⌝ }
+    ensures { λ _. ⌜ now (table .exit) ≡ built counts (now (nodes .entry)) (now (operands .entry)) (now (roots .entry)) (now (producers .entry)) p (now (table .entry)) ⌝ }
+{
+    let n = counts.nodes + counts.atoms + 1;
+    clear(table, n);
+    count(counts, nodes, operands, roots, producers, p, table);
+    sum(table, n);
+    place(counts, nodes, operands, roots, producers, p, table);
+}
+
+// Whether the two starts of list s of any table are in order and within its first `listed` words.
+pub fn in_order(table: &[u64], listed: usize, s: usize) -> bool
+    requires { ⌜ s + 1 < length (now table) ⌝ }
+    ensures { λ r. ⌜ r ≡ inOrder (now (table .entry)) listed s ⌝ }
+{
+    let start = words::word64(table, s);
+    let end = words::word64(table, s + 1);
+    if start > end {
+        return false;
+    }
+    if end > listed {
+        return false;
+    }
+    true
+}
+
+// List s of any table whose two starts are in order.
+fn list_at(table: &[u64], s: usize) -> &[u64]
+    requires { ⌜ (s + 1 < length (now table)) × InOrder (now table) (length (now table)) s ⌝ }
+    ensures { λ r. ⌜ now r ≡ listAt (now (table .entry)) s ⌝ }
+{
+    let start = words::word64(table, s);
+    let end = words::word64(table, s + 1);
+    &table[start..end]
+}
+
+// The readers of a node: its part of the table.
+pub fn readers_of(table: &[u64], node: usize) -> &[u64]
+    requires { ⌜ (node + 1 < length (now table)) × InOrder (now table) (length (now table)) node ⌝ }
+    ensures { λ r. ⌜ now r ≡ listAt (now (table .entry)) node ⌝ }
+{
+    list_at(table, node)
+}
+
+// The atom nodes of an atom: its part of the table of a theory with so many nodes.
+pub fn atom_nodes_of(table: &[u64], nodes: usize, atom: usize) -> &[u64]
+    requires { ⌜ (atomSlot nodes atom + 1 < length (now table)) × InOrder (now table) (length (now table)) (atomSlot nodes atom) ⌝ }
+    ensures { λ r. ⌜ now r ≡ listAt (now (table .entry)) (atomSlot nodes atom) ⌝ }
+{
+    list_at(table, nodes + 1 + atom)
+}
