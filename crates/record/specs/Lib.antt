@@ -1,0 +1,5 @@
+pub mod Mark
+pub mod Number
+pub mod Record
+pub mod File
+pub mod Bounds
