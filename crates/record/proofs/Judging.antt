@@ -11,7 +11,8 @@ use borrow.Author.Tests.{eq-eqb, ne-eqb}
 use Rattle.theory.specs.declared.Refusal.{Refusal}
 use Rattle.theory.specs.declared.Refusal.the-variants.{BadKind}
 use Rattle.record.specs.Record.{judged}
-use Rattle.record.specs.File.{File, sound, refused, Contents, nothing, summary, withNext, ended, readFrom, verdict}
+use Rattle.record.specs.Contents.{Contents, nothing, withNext}
+use Rattle.record.specs.File.{File, sound, refused, summary, ended, readFrom, verdict}
 use Rattle.record.specs.Bounds.{Within}
 use Rattle.record.specs.declared.Cursor.{Cursor}
 use Rattle.record.specs.declared.Step.{Step}

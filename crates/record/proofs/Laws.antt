@@ -11,7 +11,7 @@ use borrow.Author.Tests.{lt-ltb, le-ltb, le-leb, lt-leb, leb-true}
 use Rattle.base.specs.Tests.{same-test}
 use Rattle.theory.specs.Admission.{allBelow}
 use Rattle.record.specs.Number.{number, numbers, risingFrom, rising}
-use Rattle.record.specs.Record.{counted, arity, valueCount, valuesStart, recordEnd}
+use Rattle.record.specs.Layout.{counted, arity, valueCount, valuesStart, recordEnd}
 use Rattle.record.specs.declared.Mark.{Mark}
 
 pub length-numbers : (file : List ℕ) (at n : ℕ) → length (numbers file at n) ≡ n

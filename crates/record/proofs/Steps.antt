@@ -17,7 +17,9 @@ use Rattle.theory.specs.declared.Refusal.{Refusal}
 use Rattle.theory.specs.declared.Refusal.the-variants.{BadKind, CutRecord, PastLimit, BadAtom, BadOperand, NoOperands, BadRoot, NotRising}
 use Rattle.record.specs.Mark.{markAt, inOrder}
 use Rattle.record.specs.Number.{number, numbers, rising}
-use Rattle.record.specs.Record.{counted, arity, valueCount, valuesStart, recordEnd, valuesOf, countsAfter, passed, unless, isAdmitted, judgedGroup, judgedValues, judgedWhole, judgedMarked, judged}
+use Rattle.record.specs.Layout.{counted, arity, valueCount, valuesStart, recordEnd, valuesOf}
+use Rattle.record.specs.Passed.{countsAfter, passed}
+use Rattle.record.specs.Record.{unless, isAdmitted, judgedGroup, judgedValues, judgedWhole, judgedMarked, judged}
 use Rattle.record.specs.Bounds.{Within}
 use Rattle.record.specs.declared.Cursor.{Cursor}
 use Rattle.record.specs.declared.Mark.{Mark}

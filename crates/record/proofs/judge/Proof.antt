@@ -4,7 +4,8 @@ use Prim.Native.Nat.{_-_}
 use mathlib.Core.Path.{_≡_, sym, _∙_}
 use lib.ListN.{length}
 use borrow.Author.Tests.{eq-eqb, ne-eqb}
-use Rattle.record.specs.File.{theoryFile, verdict, ended, readFrom, nothing}
+use Rattle.record.specs.Contents.{nothing}
+use Rattle.record.specs.File.{theoryFile, verdict, ended, readFrom}
 use Rattle.record.specs.Bounds.{Within}
 use Rattle.record.proofs.Steps.{next-within}
 use Rattle.record.proofs.Judging.{judge-stop, judge-go, judge-done}

@@ -1,5 +1,5 @@
 use native.Mathlib.Omega.{arith}
-use Rattle.record.specs.Record.{recordEnd}
+use Rattle.record.specs.Layout.{recordEnd}
 use Rattle.record.proofs.Steps.{past-limit, within-limits, fixed-least}
 use borrow.Author.Needs.{needs}
 use Rattle.record.proofs.judge_whole.Statement.{statement}

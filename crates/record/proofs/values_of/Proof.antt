@@ -1,6 +1,6 @@
 use mathlib.Core.Path.{sym, _∙_}
 use native.Mathlib.Omega.{arith}
-use Rattle.record.specs.Record.{valuesStart, valueCount}
+use Rattle.record.specs.Layout.{valuesStart, valueCount}
 use Rattle.record.proofs.Laws.{counted-within, fixed-within}
 use borrow.Author.Needs.{needs}
 use Rattle.record.proofs.values_of.Statement.{statement}
