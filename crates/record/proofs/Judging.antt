@@ -11,7 +11,7 @@ use borrow.Author.Tests.{eq-eqb, ne-eqb}
 use Rattle.theory.specs.declared.Refusal.{Refusal}
 use Rattle.theory.specs.declared.Refusal.the-variants.{BadKind}
 use Rattle.record.specs.Record.{judged}
-use Rattle.record.specs.Contents.{Contents, nothing, withNext}
+use Rattle.record.specs.Contents.{Contents, nothing, joined, ofNext}
 use Rattle.record.specs.File.{File, sound, refused, summary, ended, readFrom, verdict}
 use Rattle.record.specs.Bounds.{Within}
 use Rattle.record.specs.declared.Cursor.{Cursor}
@@ -33,7 +33,7 @@ module _ (file : List ℕ) (c : Cursor) (t : Contents) where
   unfolding readFrom
   read-refused n r h e = rw (ne-eqb (c .at) (length file) (λ q. omega arith), e)
 
-  pub read-next : (n : ℕ) (next : Cursor) → c .at < length file → judged file c ≡ Next next → readFrom file c t (suc n) ≡ readFrom file next (withNext file c t) n
+  pub read-next : (n : ℕ) (next : Cursor) → c .at < length file → judged file c ≡ Next next → readFrom file c t (suc n) ≡ readFrom file next (joined t (ofNext file c)) n
   unfolding readFrom
   read-next n next h e = rw (ne-eqb (c .at) (length file) (λ q. omega arith), e, readFrom)
 
@@ -50,11 +50,11 @@ verdict-ended c t u = go (eqb (c .stage) 0)
 verdict-same : (file : List ℕ) (c : Cursor) (t u : Contents) (n : ℕ) → verdict (readFrom file c t n) ≡ verdict (readFrom file c u n)
 unfolding readFrom
 verdict-same file c t u zero = verdict-ended c t u
-verdict-same file c t u (suc n) = go (eqb (c .at) (length file)) (judged file c) (λ next. verdict-same file next (withNext file c t) (withNext file c u) n)
+verdict-same file c t u (suc n) = go (eqb (c .at) (length file)) (judged file c) (λ next. verdict-same file next (joined t (ofNext file c)) (joined u (ofNext file c)) n)
   where
-    go : (b : Bool) (s : Step) → ((next : Cursor) → verdict (readFrom file next (withNext file c t) n) ≡ verdict (readFrom file next (withNext file c u) n))
-        → verdict (cond b (ended c t) (elim s [ Next next ↦ readFrom file next (withNext file c t) n | Refused r ↦ refused r ]))
-        ≡ verdict (cond b (ended c u) (elim s [ Next next ↦ readFrom file next (withNext file c u) n | Refused r ↦ refused r ]))
+    go : (b : Bool) (s : Step) → ((next : Cursor) → verdict (readFrom file next (joined t (ofNext file c)) n) ≡ verdict (readFrom file next (joined u (ofNext file c)) n))
+        → verdict (cond b (ended c t) (elim s [ Next next ↦ readFrom file next (joined t (ofNext file c)) n | Refused r ↦ refused r ]))
+        ≡ verdict (cond b (ended c u) (elim s [ Next next ↦ readFrom file next (joined u (ofNext file c)) n | Refused r ↦ refused r ]))
     go true s ih = verdict-ended c t u
     go false (Next next) ih = ih next
     go false (Refused r) ih = refl
@@ -72,7 +72,7 @@ module _ (file : List ℕ) (c : Cursor) (whole : Judged) (w : Within (length fil
   pub judge-go : (next : Cursor) → c .at < length file → judged file c ≡ Next next → whole ≡ verdict (readFrom file next nothing (length file - next .records))
   judge-go next h e =
       let left : length file - c .records ≡ suc (length file - next .records) = omega (arith, w .records, next-within file c next e w .2) in
-      rest ∙ rw (left, read-next file c nothing _ next h e) (verdict-same file next (withNext file c nothing) nothing (length file - next .records))
+      rest ∙ rw (left, read-next file c nothing _ next h e) (verdict-same file next (joined nothing (ofNext file c)) nothing (length file - next .records))
 
   pub judge-done : length file ≤ c .at → whole ≡ verdict (ended c nothing)
   judge-done h = rest ∙ rw (read-end file c nothing (length file - c .records) (omega (arith, w .at)))

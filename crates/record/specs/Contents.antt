@@ -16,24 +16,33 @@ pub record Contents : Type 0 where
   pub roots : List ℕ
   pub candidates : List (List ℕ)
 
-abbrev pub withNode : Contents → ℕ → ℕ → ℕ → List ℕ → Contents
-withNode t kind a b os = record { nodes = t .nodes ++ (kind ∷ a ∷ b ∷ []); operands = t .operands ++ os; roots = t .roots; candidates = t .candidates }
-
--- what a record adds; the span of And and Or begins at `start`
-unfoldable pub withRecord : Contents → ℕ → Mark → List ℕ → Contents
-withRecord t start Theory vs = t
-withRecord t start Atom vs = withNode t 0 (getD vs 0 0) 0 []
-withRecord t start False vs = withNode t 1 0 0 []
-withRecord t start Implies vs = withNode t 2 (getD vs 0 0) (getD vs 1 0) []
-withRecord t start And vs = withNode t 3 start (length vs) vs
-withRecord t start Or vs = withNode t 4 start (length vs) vs
-withRecord t start Root vs = record { nodes = t .nodes; operands = t .operands; roots = t .roots ++ vs; candidates = t .candidates }
-withRecord t start Candidate vs = record { nodes = t .nodes; operands = t .operands; roots = t .roots; candidates = t .candidates ++ (vs ∷ []) }
-withRecord t start Unknown vs = t
-
--- the contents with those of the record at the cursor
-abbrev pub withNext : List ℕ → Cursor → Contents → Contents
-withNext file c t = withRecord t (c .counts .operands) (markAt file (c .at)) (valuesOf file (c .at) (markAt file (c .at)))
-
 abbrev pub nothing : Contents
 nothing = record { nodes = []; operands = []; roots = []; candidates = [] }
+
+abbrev pub ofNode : ℕ → ℕ → ℕ → List ℕ → Contents
+ofNode kind a b os = record { nodes = kind ∷ a ∷ b ∷ []; operands = os; roots = []; candidates = [] }
+
+-- of one record; the span of And and Or begins at `start`
+abbrev pub ofRecord : ℕ → Mark → List ℕ → Contents
+ofRecord start Theory vs = nothing
+ofRecord start Atom vs = ofNode 0 (getD vs 0 0) 0 []
+ofRecord start False vs = ofNode 1 0 0 []
+ofRecord start Implies vs = ofNode 2 (getD vs 0 0) (getD vs 1 0) []
+ofRecord start And vs = ofNode 3 start (length vs) vs
+ofRecord start Or vs = ofNode 4 start (length vs) vs
+ofRecord start Root vs = record { nodes = []; operands = []; roots = vs; candidates = [] }
+ofRecord start Candidate vs = record { nodes = []; operands = []; roots = []; candidates = vs ∷ [] }
+ofRecord start Unknown vs = nothing
+
+abbrev pub joined : Contents → Contents → Contents
+joined t u =
+    record {
+      nodes = t .nodes ++ u .nodes;
+      operands = t .operands ++ u .operands;
+      roots = t .roots ++ u .roots;
+      candidates = t .candidates ++ u .candidates;
+    }
+
+-- of the record at the cursor
+unfoldable pub ofNext : List ℕ → Cursor → Contents
+ofNext file c = ofRecord (c .counts .operands) (markAt file (c .at)) (valuesOf file (c .at) (markAt file (c .at)))

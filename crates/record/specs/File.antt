@@ -8,7 +8,7 @@ use lib.ListN.{length}
 use Rattle.theory.specs.declared.Refusal.{Refusal}
 use Rattle.theory.specs.declared.Refusal.the-variants.{BadKind}
 use Rattle.record.specs.Record.{judged}
-use Rattle.record.specs.Contents.{Contents, nothing, withNext}
+use Rattle.record.specs.Contents.{Contents, nothing, joined, ofNext}
 use Rattle.record.specs.declared.Cursor.{Cursor}
 use Rattle.record.specs.declared.Step.{Step}
 use Rattle.record.specs.declared.Step.the-variants as step
@@ -32,7 +32,7 @@ unfoldable pub readFrom : List ℕ → Cursor → Contents → ℕ → File
 readFrom file c t zero = ended c t
 readFrom file c t (suc n) =
     cond (eqb (c .at) (length file)) (ended c t)
-    (elim (judged file c) [ step.Next next ↦ readFrom file next (withNext file c t) n | step.Refused r ↦ refused r ])
+    (elim (judged file c) [ step.Next next ↦ readFrom file next (joined t (ofNext file c)) n | step.Refused r ↦ refused r ])
 
 abbrev pub start : Cursor
 start =

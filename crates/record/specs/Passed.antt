@@ -8,11 +8,12 @@ use Rattle.record.specs.declared.Cursor.{Cursor}
 use Rattle.record.specs.declared.Mark.{Mark}
 use Rattle.record.specs.declared.Mark.the-variants.{Theory, Atom, False, Implies, And, Or, Root, Candidate, Unknown}
 
+-- with so many more nodes, operand entries and roots
 abbrev pub more : Counts → ℕ → ℕ → ℕ → Counts
 more t n o r = record { stamp = t .stamp; atoms = t .atoms; nodes = t .nodes + n; operands = t .operands + o; roots = t .roots + r }
 
 abbrev pub countsAfter : Counts → Mark → List ℕ → Counts
-countsAfter t Theory vs = record { stamp = getD vs 0 0; atoms = getD vs 1 0; nodes = 0; operands = 0; roots = 0 }
+countsAfter t Theory vs = record { stamp = getD vs 0 0; atoms = getD vs 1 0; nodes = t .nodes; operands = t .operands; roots = t .roots }
 countsAfter t Atom vs = more t 1 0 0
 countsAfter t False vs = more t 1 0 0
 countsAfter t Implies vs = more t 1 0 0

@@ -11,7 +11,7 @@ ghost use Rattle.record.specs.Number.{number, numbers, rising};
 ghost use Rattle.record.specs.Layout.{counted, arity, valueCount, valuesStart, valuesOf, recordEnd};
 ghost use Rattle.record.specs.Passed.{countsAfter, more, passed, passedOther};
 ghost use Rattle.record.specs.Record.{unless, judgedGroup, judgedValues, judgedWhole, judged};
-ghost use Rattle.record.specs.File.{theoryFile, verdict, start};
+ghost use Rattle.record.specs.File.{theoryFile, verdict};
 ghost use Rattle.record.specs.Bounds.{Within};
 use theory::Admission;
 use theory::Counts;
@@ -268,27 +268,27 @@ fn more(t: Counts, nodes: usize, operands: usize, roots: usize) -> Counts
     }
 }
 
-fn first_counts(file: &[u8], v: Values) -> Counts
+fn with_atoms(file: &[u8], t: Counts, v: Values) -> Counts
     requires { ⌜ (v .start + 4 * v .count ≤ length (now file)) × (2 ≤ v .count) ⌝ }
-    ensures { λ r. ⌜ r ≡ countsAfter (start .counts) Mark.Theory (numbers (now (file .entry)) (v .start) (v .count)) ⌝ }
+    ensures { λ r. ⌜ r ≡ countsAfter t Mark.Theory (numbers (now (file .entry)) (v .start) (v .count)) ⌝ }
 {
     let stamp = number(file, v.start);
     Counts {
         stamp: stamp as u32,
         atoms: number(file, v.start + 4),
-        nodes: 0,
-        operands: 0,
-        roots: 0,
+        nodes: t.nodes,
+        operands: t.operands,
+        roots: t.roots,
     }
 }
 
 // The counts with what a record adds to them.
-fn counts_after(file: &[u8], t: Counts, mark: Mark, v: Values) -> Counts
+pub fn counts_after(file: &[u8], t: Counts, mark: Mark, v: Values) -> Counts
     requires { ⌜ (v .start + 4 * v .count ≤ length (now file)) × (arity mark ≤ v .count) × (v .count < 4294967296) × Limited t ⌝ }
     ensures { λ r. ⌜ r ≡ countsAfter t mark (numbers (now (file .entry)) (v .start) (v .count)) ⌝ }
 {
     match mark {
-        Mark::Theory => first_counts(file, v),
+        Mark::Theory => with_atoms(file, t, v),
         Mark::Atom => more(t, 1, 0, 0),
         Mark::False => more(t, 1, 0, 0),
         Mark::Implies => more(t, 1, 0, 0),
@@ -316,7 +316,7 @@ fn passed_other(c: Cursor, stage: usize, counts: Counts, end: usize) -> Cursor
 }
 
 // The cursor past a record that ends at `end`.
-fn passed(c: Cursor, mark: Mark, counts: Counts, end: usize) -> Cursor
+pub fn passed(c: Cursor, mark: Mark, counts: Counts, end: usize) -> Cursor
     requires { ⌜ (c .records < 9223372036854775808) × (c .candidates < 9223372036854775808) ⌝ }
     ensures { λ r. ⌜ r ≡ passed c mark counts end ⌝ }
 {

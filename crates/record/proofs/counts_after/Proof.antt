@@ -7,8 +7,8 @@ use Rattle.record.proofs.counts_after.Tie as tie
 enum-told : tie.Need-enum-told
 enum-told c = search needs
 
-first-counts-requires : tie.Need-first-counts-requires
-first-counts-requires c κs = (search needs, omega (arith, rw (c .enum-told .given .1) at (c .before .before .before .pre .1)))
+with-atoms-requires : tie.Need-with-atoms-requires
+with-atoms-requires c κs = (search needs, omega (arith, rw (c .enum-told .given .1) at (c .before .before .before .pre .1)))
 
 enum-told-2 : tie.Need-enum-told-2
 enum-told-2 c = search needs
@@ -53,7 +53,7 @@ enum-told-9 : tie.Need-enum-told-9
 enum-told-9 c = search needs
 
 returns : tie.Need-returns
-returns c = rw (c .before .enum-told .given .1) (c .first-counts .ensures)
+returns c = rw (c .before .enum-told .given .1) (c .with-atoms .ensures)
 
 returns-2 : tie.Need-returns-2
 returns-2 c = rw (c .before .enum-told2 .given .1) (c .more .ensures)
@@ -84,7 +84,7 @@ counts-after-spec =
     tie.close
     (tie.spec
     enum-told
-    first-counts-requires
+    with-atoms-requires
     enum-told-2
     more-requires
     enum-told-3
