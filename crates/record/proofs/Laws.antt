@@ -42,6 +42,14 @@ unfolding numbers
 numbers-first file start zero h = absurd (omega arith)
 numbers-first file start (suc n) h = let left : suc n - 1 ≡ n = omega arith in rw left
 
+pub numbers-at : (file : List ℕ) (start i n : ℕ) → i < n → getD (numbers file start n) i 0 ≡ number file (start + 4 * i)
+unfolding numbers
+numbers-at file start i zero h = absurd (omega arith)
+numbers-at file start zero (suc n) h = let on : start + 4 * zero ≡ start = omega arith in rw on
+numbers-at file start (suc i) (suc n) h =
+    let on : start + 4 * suc i ≡ start + 4 + 4 * i = omega arith in
+    rw on (numbers-at file (start + 4) i n (omega arith))
+
 -- a loop over the values from i up to n: `whole` is what is left at each turn
 module _ (file : List ℕ) (bound start i n : ℕ) (whole : Bool) (rest : whole ≡ allBelow bound (numbers file (start + 4 * i) (n - i))) where
   pub below-stop : i < n → bound ≤ number file (start + 4 * i) → false ≡ whole

@@ -20,6 +20,7 @@ use Rattle.record.specs.Number.{number, numbers, rising}
 use Rattle.record.specs.Layout.{counted, arity, valueCount, valuesStart, recordEnd, valuesOf}
 use Rattle.record.specs.Passed.{countsAfter, passed}
 use Rattle.record.specs.Record.{unless, isAdmitted, judgedGroup, judgedValues, judgedWhole, judgedMarked, judged}
+use Rattle.record.specs.File.{start}
 use Rattle.record.specs.Bounds.{Within}
 use Rattle.record.specs.declared.Cursor.{Cursor}
 use Rattle.record.specs.declared.Mark.{Mark}
@@ -181,3 +182,12 @@ next-within file c next e w =
       omega (arith, f .0, past),
       f .1,
     )
+
+pub start-within : (size : ℕ) → Within size start
+start-within size =
+    record {
+      at = omega arith;
+      records = omega arith;
+      candidates = omega arith;
+      limited = record { atoms = omega arith; nodes = omega arith; operands = omega arith; roots = omega arith };
+    }

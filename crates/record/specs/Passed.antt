@@ -19,7 +19,7 @@ countsAfter t False vs = more t 1 0 0
 countsAfter t Implies vs = more t 1 0 0
 countsAfter t And vs = more t 1 (length vs) 0
 countsAfter t Or vs = more t 1 (length vs) 0
-countsAfter t Root vs = more t 0 0 1
+countsAfter t Root vs = more t 0 0 (length vs)
 countsAfter t Candidate vs = t
 countsAfter t Unknown vs = t
 

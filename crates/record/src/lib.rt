@@ -11,7 +11,7 @@ ghost use Rattle.record.specs.Number.{number, numbers, rising};
 ghost use Rattle.record.specs.Layout.{counted, arity, valueCount, valuesStart, valuesOf, recordEnd};
 ghost use Rattle.record.specs.Passed.{countsAfter, more, passed, passedOther};
 ghost use Rattle.record.specs.Record.{unless, judgedGroup, judgedValues, judgedWhole, judged};
-ghost use Rattle.record.specs.File.{theoryFile, verdict};
+ghost use Rattle.record.specs.File.{theoryFile, verdict, start};
 ghost use Rattle.record.specs.Bounds.{Within};
 use theory::Admission;
 use theory::Counts;
@@ -294,7 +294,7 @@ pub fn counts_after(file: &[u8], t: Counts, mark: Mark, v: Values) -> Counts
         Mark::Implies => more(t, 1, 0, 0),
         Mark::And => more(t, 1, v.count, 0),
         Mark::Or => more(t, 1, v.count, 0),
-        Mark::Root => more(t, 0, 0, 1),
+        Mark::Root => more(t, 0, 0, v.count),
         Mark::Candidate => t,
         Mark::Unknown => t,
     }
@@ -445,11 +445,11 @@ fn judge_record(file: &[u8], c: Cursor) -> Step
     }
 }
 
-// Whether the file is sound, and what it holds; or why not, and at which record.
-pub fn judge(file: &[u8]) -> Judged
-    ensures { λ r. ⌜ r ≡ verdict (theoryFile (now (file .entry))) ⌝ }
+// Before the first record.
+pub fn start() -> Cursor
+    ensures { λ r. ⌜ r ≡ start ⌝ }
 {
-    let mut c = Cursor {
+    Cursor {
         at: 0,
         records: 0,
         stage: 0,
@@ -462,7 +462,14 @@ pub fn judge(file: &[u8]) -> Judged
         },
         candidates: 0,
         first: 0,
-    };
+    }
+}
+
+// Whether the file is sound, and what it holds; or why not, and at which record.
+pub fn judge(file: &[u8]) -> Judged
+    ensures { λ r. ⌜ r ≡ verdict (theoryFile (now (file .entry))) ⌝ }
+{
+    let mut c = start();
     while c.at < file.len() {
         match judge_record(file, c) {
             Step::Next(next) => c = next,

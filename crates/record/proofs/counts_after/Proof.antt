@@ -71,7 +71,7 @@ returns-6 : tie.Need-returns-6
 returns-6 c = rw (c .before .enum-told6 .given .1, length-numbers) (c .more5 .ensures)
 
 returns-7 : tie.Need-returns-7
-returns-7 c = rw (c .before .enum-told7 .given .1) (c .more6 .ensures)
+returns-7 c = rw (c .before .enum-told7 .given .1, length-numbers) (c .more6 .ensures)
 
 returns-8 : tie.Need-returns-8
 returns-8 c = search needs

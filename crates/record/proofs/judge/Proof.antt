@@ -7,7 +7,7 @@ use borrow.Author.Tests.{eq-eqb, ne-eqb}
 use Rattle.record.specs.Contents.{nothing}
 use Rattle.record.specs.File.{theoryFile, verdict, ended, readFrom}
 use Rattle.record.specs.Bounds.{Within}
-use Rattle.record.proofs.Steps.{next-within}
+use Rattle.record.proofs.Steps.{next-within, start-within}
 use Rattle.record.proofs.Judging.{judge-stop, judge-go, judge-done}
 use borrow.Author.Needs.{needs}
 use Rattle.record.proofs.judge.Statement.{statement}
@@ -19,9 +19,12 @@ Inv-loop file c₀ c = Within (length file) c × (verdict (theoryFile file) ≡ 
 abbrev μ-loop : tie.MeasureT-loop
 μ-loop file c₀ c = length file - c .at
 
+start-requires : tie.Need-start-requires Inv-loop μ-loop
+start-requires c κs = search needs
+
 loop-holds : tie.Need-loop-holds Inv-loop μ-loop
 unfolding theoryFile
-loop-holds c = (search needs, rw sub-zero)
+loop-holds c = (rw (c .start .ensures) (start-within _), rw (c .start .ensures, sub-zero))
 
 judge-record-requires : tie.Need-judge-record-requires Inv-loop μ-loop
 judge-record-requires c κs = search needs
@@ -55,6 +58,7 @@ judge-spec =
     (tie.spec
     Inv-loop
     μ-loop
+    start-requires
     loop-holds
     judge-record-requires
     enum-known-next

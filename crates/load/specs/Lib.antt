@@ -1,0 +1,4 @@
+pub mod Tables
+pub mod Loading
+pub mod Store
+pub mod Candidate
