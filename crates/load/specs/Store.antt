@@ -8,6 +8,8 @@ use lib.ListN.{length, take, drop}
 use Rattle.record.specs.Record.{judged}
 use Rattle.record.specs.Contents.{Contents, ofNext}
 use Rattle.record.specs.declared.Cursor.{Cursor}
+use Rattle.record.specs.declared.Mark.{Mark}
+use Rattle.record.specs.declared.Mark.the-variants.{Theory, Atom, False, Implies, And, Or, Root, Candidate, Unknown}
 use Rattle.record.specs.declared.Step.{Step}
 use Rattle.record.specs.declared.Step.the-variants.{Next, Refused}
 use Rattle.load.specs.Tables.{Tables}
@@ -22,6 +24,29 @@ placed xs i ys = take i xs ++ ys ++ drop (i + length ys) xs
 abbrev pub wordsOf : Added → List ℕ
 wordsOf Nothing = []
 wordsOf (Node kind a b) = kind ∷ a ∷ b ∷ []
+
+-- how many values of a record go into the operand table, and into the list of roots
+abbrev pub operandCount : Mark → ℕ → ℕ
+operandCount Theory n = 0
+operandCount Atom n = 0
+operandCount False n = 0
+operandCount Implies n = 0
+operandCount And n = n
+operandCount Or n = n
+operandCount Root n = 0
+operandCount Candidate n = 0
+operandCount Unknown n = 0
+
+abbrev pub rootCount : Mark → ℕ → ℕ
+rootCount Theory n = 0
+rootCount Atom n = 0
+rootCount False n = 0
+rootCount Implies n = 0
+rootCount And n = 0
+rootCount Or n = 0
+rootCount Root n = n
+rootCount Candidate n = 0
+rootCount Unknown n = 0
 
 -- the contents of the record at the cursor put where the last ones ended
 unfoldable pub stored : List ℕ → Cursor → Tables → Tables

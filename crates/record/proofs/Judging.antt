@@ -10,6 +10,7 @@ use lib.ListN.{length}
 use borrow.Author.Tests.{eq-eqb, ne-eqb}
 use Rattle.theory.specs.declared.Refusal.{Refusal}
 use Rattle.theory.specs.declared.Refusal.the-variants.{BadKind}
+use Rattle.theory.specs.Limits.{Limited}
 use Rattle.record.specs.Record.{judged}
 use Rattle.record.specs.Contents.{Contents, nothing, joined, ofNext}
 use Rattle.record.specs.File.{File, sound, refused, summary, ended, readFrom, verdict}
@@ -17,6 +18,7 @@ use Rattle.record.specs.Bounds.{Within}
 use Rattle.record.specs.declared.Cursor.{Cursor}
 use Rattle.record.specs.declared.Step.{Step}
 use Rattle.record.specs.declared.Step.the-variants.{Next, Refused}
+use Rattle.record.specs.declared.Summary.{Summary}
 use Rattle.record.specs.declared.Judged.{Judged}
 use Rattle.record.specs.declared.Judged.the-variants as judgment
 use Rattle.record.proofs.Steps.{next-within}
@@ -47,7 +49,7 @@ verdict-ended c t u = go (eqb (c .stage) 0)
     go true = refl
     go false = refl
 
-verdict-same : (file : List ℕ) (c : Cursor) (t u : Contents) (n : ℕ) → verdict (readFrom file c t n) ≡ verdict (readFrom file c u n)
+pub verdict-same : (file : List ℕ) (c : Cursor) (t u : Contents) (n : ℕ) → verdict (readFrom file c t n) ≡ verdict (readFrom file c u n)
 unfolding readFrom
 verdict-same file c t u zero = verdict-ended c t u
 verdict-same file c t u (suc n) = go (eqb (c .at) (length file)) (judged file c) (λ next. verdict-same file next (joined t (ofNext file c)) (joined u (ofNext file c)) n)
@@ -76,3 +78,28 @@ module _ (file : List ℕ) (c : Cursor) (whole : Judged) (w : Within (length fil
 
   pub judge-done : length file ≤ c .at → whole ≡ verdict (ended c nothing)
   judge-done h = rest ∙ rw (read-end file c nothing (length file - c .records) (omega (arith, w .at)))
+
+-- ---- a sound file is within the limits
+
+ended-limited : (c : Cursor) (t : Contents) (s : Summary) → Limited (c .counts) → verdict (ended c t) ≡ judgment.Sound s → Limited (s .counts)
+unfolding ended verdict
+ended-limited c t s l = go (eqb (c .stage) 0)
+  where
+    go : (b : Bool) → verdict (cond b (refused (BadKind (c .records))) (sound (summary c) t)) ≡ judgment.Sound s → Limited (s .counts)
+    go true e = let z : _≡_ {A = ℕ} 0 1 = cc in absurd (omega arith)
+    go false e = let q : summary c ≡ s = cc in rw (sym q) l
+
+pub sound-limited : (file : List ℕ) (c : Cursor) (t : Contents) (n : ℕ) (s : Summary) → Within (length file) c
+    → verdict (readFrom file c t n) ≡ judgment.Sound s → Limited (s .counts)
+unfolding readFrom verdict
+sound-limited file c t zero s w e = ended-limited c t s (w .limited) e
+sound-limited file c t (suc n) s w e =
+    go (eqb (c .at) (length file)) (judged file c) refl (λ next. sound-limited file next (joined t (ofNext file c)) n s) e
+  where
+    go : (b : Bool) (x : Step) → judged file c ≡ x
+        → ((next : Cursor) → Within (length file) next → verdict (readFrom file next (joined t (ofNext file c)) n) ≡ judgment.Sound s → Limited (s .counts))
+        → verdict (cond b (ended c t) (elim x [ Next next ↦ readFrom file next (joined t (ofNext file c)) n | Refused r ↦ refused r ])) ≡ judgment.Sound s
+        → Limited (s .counts)
+    go true x j ih h = ended-limited c t s (w .limited) h
+    go false (Next next) j ih h = ih next (next-within file c next j w .0) h
+    go false (Refused r) j ih h = let z : _≡_ {A = ℕ} 0 1 = cc in absurd (omega arith)

@@ -118,6 +118,11 @@ module _ (file : List ℕ) (at : ℕ) (mark : Mark) where
   unfolding recordEnd valuesStart valueCount
   fixed-within h e = omega (arith, rw e at h)
 
+pub one-number : (file : List ℕ) (at n : ℕ) → 1 ≤ n → getD (numbers file at n) 0 0 ≡ number file at
+unfolding numbers
+one-number file at zero h = absurd (omega arith)
+one-number file at (suc n) h = refl
+
 pub two-numbers : (file : List ℕ) (at n : ℕ) → 2 ≤ n → (getD (numbers file at n) 0 0 ≡ number file at) × (getD (numbers file at n) 1 0 ≡ number file (at + 4))
 unfolding numbers
 two-numbers file at zero h = absurd (omega arith)

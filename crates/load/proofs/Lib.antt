@@ -1,0 +1,4 @@
+pub mod Laws
+pub mod Storing
+pub mod Outcomes
+pub mod Sets
