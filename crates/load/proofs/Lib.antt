@@ -2,3 +2,5 @@ pub mod Laws
 pub mod Storing
 pub mod Outcomes
 pub mod Sets
+pub mod Formed
+pub mod Admitted

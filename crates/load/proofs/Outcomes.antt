@@ -15,7 +15,8 @@ use Rattle.load.specs.Loading.{Outcome, outcome, loading, loadingSound}
 use Rattle.load.specs.Store.{storedFrom}
 use Rattle.load.specs.declared.Loaded.{Loaded}
 use Rattle.load.specs.declared.Loaded.the-variants.{Sound, Refused}
-use Rattle.load.proofs.Storing.{contentsOf, sound-is, refused-is, tables-hold}
+use Rattle.record.proofs.Judging.{contentsOf, sound-is, refused-is}
+use Rattle.load.proofs.Storing.{tables-hold}
 
 pub not-sound : (file : List ℕ) (b : Tables) (r : Refusal) → verdict (theoryFile file) ≡ judgment.Refused r → outcome (Refused r) b ≡ loading (theoryFile file) b
 unfolding loading

@@ -28,7 +28,7 @@ use Rattle.record.specs.declared.Step.{Step}
 use Rattle.record.specs.declared.Step.the-variants.{Next, Refused}
 use Rattle.record.specs.declared.Judged.the-variants as judgment
 use Rattle.record.proofs.Steps.{Passed, next-passed, next-within, passed-fields}
-use Rattle.record.proofs.Judging.{read-end, read-refused, read-next, verdict-same}
+use Rattle.record.proofs.Judging.{read-refused, read-next, verdict-same, contentsOf, sound-is}
 use Rattle.load.specs.Tables.{Tables, tables, over, holding}
 use Rattle.load.specs.Store.{placed, stored, storedFrom}
 use Rattle.load.specs.Room.{Fits, Stands}
@@ -204,22 +204,6 @@ stored-contents file c t u s b (suc n) z e =
     go true x j ih h = ap (λ v. holding v b) (ended-contents c t u s h)
     go false (Next next) j ih h = rw (stored-holding file c t b z) (ih next (sized-next file c next t j z) h)
     go false (Refused r) j ih h = let k : _≡_ {A = ℕ} 0 1 = cc in absurd (omega arith)
-
--- ---- a sound file
-
-pub contentsOf : File → Contents
-contentsOf (sound s t) = t
-contentsOf (refused r) = nothing
-
-pub sound-is : (f : File) (s : Summary) → verdict f ≡ judgment.Sound s → f ≡ sound s (contentsOf f)
-unfolding verdict contentsOf
-sound-is (sound s' t) s e = cc
-sound-is (refused r) s e = let k : _≡_ {A = ℕ} 0 1 = cc in absurd (omega arith)
-
-pub refused-is : (f : File) (r : Refusal) → verdict f ≡ judgment.Refused r → f ≡ refused r
-unfolding verdict
-refused-is (sound s t) r e = let k : _≡_ {A = ℕ} 0 1 = cc in absurd (omega arith)
-refused-is (refused r') r e = cc
 
 -- the tables that `store_all` leaves
 pub tables-hold : (file : List ℕ) (s : Summary) (b : Tables) → verdict (theoryFile file) ≡ judgment.Sound s

@@ -13,7 +13,7 @@ use Rattle.theory.specs.declared.Refusal.the-variants.{BadKind}
 use Rattle.theory.specs.Limits.{Limited}
 use Rattle.record.specs.Record.{judged}
 use Rattle.record.specs.Contents.{Contents, nothing, joined, ofNext}
-use Rattle.record.specs.File.{File, sound, refused, summary, ended, readFrom, verdict}
+use Rattle.record.specs.File.{File, sound, refused, summary, ended, readFrom, start, theoryFile, verdict}
 use Rattle.record.specs.Bounds.{Within}
 use Rattle.record.specs.declared.Cursor.{Cursor}
 use Rattle.record.specs.declared.Step.{Step}
@@ -21,7 +21,7 @@ use Rattle.record.specs.declared.Step.the-variants.{Next, Refused}
 use Rattle.record.specs.declared.Summary.{Summary}
 use Rattle.record.specs.declared.Judged.{Judged}
 use Rattle.record.specs.declared.Judged.the-variants as judgment
-use Rattle.record.proofs.Steps.{next-within}
+use Rattle.record.proofs.Steps.{next-within, start-within}
 
 -- ---- one turn of the definition
 
@@ -79,27 +79,49 @@ module _ (file : List ℕ) (c : Cursor) (whole : Judged) (w : Within (length fil
   pub judge-done : length file ≤ c .at → whole ≡ verdict (ended c nothing)
   judge-done h = rest ∙ rw (read-end file c nothing (length file - c .records) (omega (arith, w .at)))
 
--- ---- a sound file is within the limits
+-- ---- a sound file
 
-ended-limited : (c : Cursor) (t : Contents) (s : Summary) → Limited (c .counts) → verdict (ended c t) ≡ judgment.Sound s → Limited (s .counts)
-unfolding ended verdict
-ended-limited c t s l = go (eqb (c .stage) 0)
-  where
-    go : (b : Bool) → verdict (cond b (refused (BadKind (c .records))) (sound (summary c) t)) ≡ judgment.Sound s → Limited (s .counts)
-    go true e = let z : _≡_ {A = ℕ} 0 1 = cc in absurd (omega arith)
-    go false e = let q : summary c ≡ s = cc in rw (sym q) l
+-- what every record keeps holds at the end of a sound file
+module _ (file : List ℕ) (P : Cursor → Contents → Type 0)
+    (step : (c next : Cursor) (t : Contents) → judged file c ≡ Next next → P c t → P next (joined t (ofNext file c))) (s : Summary) (u : Contents) where
+  ended-keeps : (c : Cursor) (t : Contents) → P c t → ended c t ≡ sound s u → (e : Cursor) × P e u × (summary e ≡ s)
+  unfolding ended
+  ended-keeps c t p = go (eqb (c .stage) 0)
+    where
+      go : (b : Bool) → cond b (refused (BadKind (c .records))) (sound (summary c) t) ≡ sound s u → (e : Cursor) × P e u × (summary e ≡ s)
+      go true e = let z : _≡_ {A = ℕ} 0 1 = cc in absurd (omega arith)
+      go false e = let q : t ≡ u = cc in (c, rw q at p, cc)
 
-pub sound-limited : (file : List ℕ) (c : Cursor) (t : Contents) (n : ℕ) (s : Summary) → Within (length file) c
-    → verdict (readFrom file c t n) ≡ judgment.Sound s → Limited (s .counts)
-unfolding readFrom verdict
-sound-limited file c t zero s w e = ended-limited c t s (w .limited) e
-sound-limited file c t (suc n) s w e =
-    go (eqb (c .at) (length file)) (judged file c) refl (λ next. sound-limited file next (joined t (ofNext file c)) n s) e
-  where
-    go : (b : Bool) (x : Step) → judged file c ≡ x
-        → ((next : Cursor) → Within (length file) next → verdict (readFrom file next (joined t (ofNext file c)) n) ≡ judgment.Sound s → Limited (s .counts))
-        → verdict (cond b (ended c t) (elim x [ Next next ↦ readFrom file next (joined t (ofNext file c)) n | Refused r ↦ refused r ])) ≡ judgment.Sound s
-        → Limited (s .counts)
-    go true x j ih h = ended-limited c t s (w .limited) h
-    go false (Next next) j ih h = ih next (next-within file c next j w .0) h
-    go false (Refused r) j ih h = let z : _≡_ {A = ℕ} 0 1 = cc in absurd (omega arith)
+  pub read-keeps : (c : Cursor) (t : Contents) (n : ℕ) → P c t → readFrom file c t n ≡ sound s u → (e : Cursor) × P e u × (summary e ≡ s)
+  unfolding readFrom
+  read-keeps c t zero p e = ended-keeps c t p e
+  read-keeps c t (suc n) p e = go (eqb (c .at) (length file)) (judged file c) refl (λ next. read-keeps next (joined t (ofNext file c)) n) e
+    where
+      go : (b : Bool) (x : Step) → judged file c ≡ x
+          → ((next : Cursor) → P next (joined t (ofNext file c)) → readFrom file next (joined t (ofNext file c)) n ≡ sound s u → (e : Cursor) × P e u × (summary e ≡ s))
+          → cond b (ended c t) (elim x [ Next next ↦ readFrom file next (joined t (ofNext file c)) n | Refused r ↦ refused r ]) ≡ sound s u
+          → (e : Cursor) × P e u × (summary e ≡ s)
+      go true x j ih h = ended-keeps c t p h
+      go false (Next next) j ih h = ih next (step c next t j p) h
+      go false (Refused r) j ih h = let z : _≡_ {A = ℕ} 0 1 = cc in absurd (omega arith)
+
+unfoldable pub contentsOf : File → Contents
+contentsOf (sound s t) = t
+contentsOf (refused r) = nothing
+
+pub sound-is : (f : File) (s : Summary) → verdict f ≡ judgment.Sound s → f ≡ sound s (contentsOf f)
+unfolding verdict contentsOf
+sound-is (sound s' t) s e = cc
+sound-is (refused r) s e = let k : _≡_ {A = ℕ} 0 1 = cc in absurd (omega arith)
+
+pub refused-is : (f : File) (r : Refusal) → verdict f ≡ judgment.Refused r → f ≡ refused r
+unfolding verdict
+refused-is (sound s t) r e = let k : _≡_ {A = ℕ} 0 1 = cc in absurd (omega arith)
+refused-is (refused r') r e = cc
+
+-- it is within the limits
+pub sound-limited : (file : List ℕ) (s : Summary) (t : Contents) → theoryFile file ≡ sound s t → Limited (s .counts)
+unfolding theoryFile
+sound-limited file s t e =
+    let k = read-keeps file (λ c u. Within (length file) c) (λ c next u j w. next-within file c next j w .0) s t start nothing (length file) (start-within (length file)) e in
+    rw (ap (λ q. q .counts) (k .2)) at (k .1 .limited)

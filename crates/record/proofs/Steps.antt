@@ -93,12 +93,12 @@ end-past file at mark = go (counted mark)
 pub refused-next : (r : Refusal) (n : Cursor) → Refused r ≡ Next n → ⊥
 refused-next r n e = let z : _≡_ {A = ℕ} 0 1 = cc in omega arith
 
-unless-next : (b : Bool) (r : Refusal) (s : Step) (n : Cursor) → unless b r s ≡ Next n → (b ≡ true) × (s ≡ Next n)
+pub unless-next : (b : Bool) (r : Refusal) (s : Step) (n : Cursor) → unless b r s ≡ Next n → (b ≡ true) × (s ≡ Next n)
 unfolding unless
 unless-next true r s n e = (refl, e)
 unless-next false r s n e = absurd (refused-next r n e)
 
-group-next : (c : Cursor) (vs : List ℕ) (s : Step) (n : Cursor) → judgedGroup c vs s ≡ Next n → s ≡ Next n
+pub group-next : (c : Cursor) (vs : List ℕ) (s : Step) (n : Cursor) → judgedGroup c vs s ≡ Next n → s ≡ Next n
 unfolding judgedGroup
 group-next c vs s n e = unless-next _ _ _ n (unless-next _ _ _ n e .1) .1
 

@@ -1,17 +1,14 @@
 use native.Mathlib.Omega.{arith}
 use lib.ListN.{length}
-use Rattle.record.specs.Contents.{nothing}
-use Rattle.record.specs.File.{theoryFile, start}
-use Rattle.record.proofs.Steps.{start-within}
-use Rattle.record.proofs.Judging.{sound-limited}
+use Rattle.record.specs.File.{theoryFile}
+use Rattle.record.proofs.Judging.{contentsOf, sound-is, sound-limited}
 use Rattle.load.proofs.Outcomes.{short-nodes, short-operands, short-roots, all-stored}
 use borrow.Author.Needs.{needs}
 use Rattle.load.proofs.load_sound.Statement.{statement}
 use Rattle.load.proofs.load_sound.Tie as tie
 
 mul-if1 : tie.Need-mul-if1
-unfolding theoryFile
-mul-if1 c = omega (arith, sound-limited (c .before .before .before .before .before .args .file .now) start nothing (length (c .before .before .before .before .before .args .file .now)) (c .before .before .before .before .before .args .s) (start-within (length (c .before .before .before .before .before .args .file .now))) (c .before .before .before .before .before .pre) .nodes)
+mul-if1 c = omega (arith, sound-limited (c .before .before .before .before .before .args .file .now) (c .before .before .before .before .before .args .s) (contentsOf (theoryFile (c .before .before .before .before .before .args .file .now))) (sound-is (theoryFile (c .before .before .before .before .before .args .file .now)) (c .before .before .before .before .before .args .s) (c .before .before .before .before .before .pre)) .nodes)
 
 returns : tie.Need-returns
 returns c = short-nodes _ _ _ (c .before .before .before .before .before .before .pre) (c .if1 .taken)
