@@ -4,3 +4,4 @@ pub mod Outcomes
 pub mod Sets
 pub mod Formed
 pub mod Admitted
+pub mod Candidates
