@@ -1,0 +1,7 @@
+pub mod Laws
+pub mod Storing
+pub mod Outcomes
+pub mod Sets
+pub mod Formed
+pub mod Admitted
+pub mod Candidates

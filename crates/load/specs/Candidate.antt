@@ -1,0 +1,33 @@
+-- A candidate: its atoms as a set of words of 64 bits.
+-- Assumes nothing.
+use Prim.Native.Nat.{ℕ, zero, suc, _+_, _/_, _≤_}
+use mathlib.Core.Path.{_≡_}
+use mathlib.Core.Bool.{true}
+use mathlib.Core.List.{List, [], _∷_}
+use lib.ListN.{length, replicate}
+use Rattle.words.specs.Sets.{inserted}
+use Rattle.theory.specs.Admission.{allBelow}
+use Rattle.record.specs.Layout.{recordEnd, valuesOf}
+use Rattle.record.specs.declared.Mark.the-variants.{Candidate}
+
+-- the words with each of these put in
+unfoldable pub insertedAll : List ℕ → List ℕ → List ℕ
+insertedAll ws [] = ws
+insertedAll ws (a ∷ as') = insertedAll (inserted 64 ws a) as'
+
+-- the words that so many atoms take
+abbrev pub wordCount : ℕ → ℕ
+wordCount atoms = (atoms + 63) / 64
+
+unfoldable pub candidateWords : ℕ → List ℕ → List ℕ
+candidateWords atoms vs = insertedAll (replicate (wordCount atoms) 0) vs
+
+-- a whole candidate over so many atoms begins at `at`
+pub record CandidateAt (file : List ℕ) (atoms at : ℕ) : Type 0 where
+  pub whole : recordEnd file at Candidate ≤ length file
+  pub below : allBelow atoms (valuesOf file at Candidate) ≡ true
+
+-- the place of candidate i, the first one at `first`
+unfoldable pub placeOf : List ℕ → ℕ → ℕ → ℕ
+placeOf file first zero = first
+placeOf file first (suc i) = recordEnd file (placeOf file first i) Candidate

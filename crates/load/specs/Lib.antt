@@ -1,0 +1,5 @@
+pub mod Tables
+pub mod Loading
+pub mod Store
+pub mod Room
+pub mod Candidate
