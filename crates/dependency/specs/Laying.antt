@@ -19,35 +19,35 @@ use Rattle.dependency.specs.declared.Laying.{Laying}
 abbrev pub most : Counts → ℕ
 most t = t .operands + t .nodes + t .roots
 
--- tables and an area for v vertices: v class words, then kahn's area
+-- tables and an area for v vertices: the class words, then kahn's area
 pub record Ready (t : Counts) (nodes operands roots : List ℕ) (v : ℕ) (area : List ℕ) : Type 0 where
   pub limited : Limited t
   pub tables : NodeTables t nodes operands
   pub listed : RootTable t roots
   pub starts : spanStart nodes (t .nodes) ≤ t .operands
   pub vertices : v ≡ t .atoms + t .nodes
-  pub long : 5 * v + 2 * most t ≤ length area
+  pub long : t .nodes + 4 * v + 2 * most t ≤ length area
 
 -- the dependencies before the cursor are laid
 pub record LaidBefore (t : Counts) (nodes operands roots : List ℕ) (v : ℕ) (area : List ℕ) (l : Laying) : Type 0 where
-  pub range : InRange t nodes operands (take v area) roots (l .cursor)
-  pub number : l .laid ≡ length (before t nodes operands (take v area) roots (l .cursor))
-  pub room : l .laid + left t nodes operands (take v area) roots (l .cursor) ≤ most t
-  pub laid : Laid v (most t) (before t nodes operands (take v area) roots (l .cursor)) (drop v area)
+  pub range : InRange t nodes operands (take (t .nodes) area) roots (l .cursor)
+  pub number : l .laid ≡ length (before t nodes operands (take (t .nodes) area) roots (l .cursor))
+  pub room : l .laid + left t nodes operands (take (t .nodes) area) roots (l .cursor) ≤ most t
+  pub laid : Laid v (most t) (before t nodes operands (take (t .nodes) area) roots (l .cursor)) (drop (t .nodes) area)
 
 -- one step: the class words stay; more is laid and less is left, or all is laid
 pub record LaidNext (t : Counts) (nodes operands roots : List ℕ) (v : ℕ) (area after : List ℕ) (l r : Laying) : Type 0 where
   pub long : length after ≡ length area
-  pub classes : take v after ≡ take v area
-  pub more : r .done ≡ false → LaidBefore t nodes operands roots v after r × (left t nodes operands (take v area) roots (r .cursor) < left t nodes operands (take v area) roots (l .cursor))
-  pub all : r .done ≡ true → Laid v (most t) (dependencies t nodes operands (take v area) roots) (drop v after)
+  pub classes : take (t .nodes) after ≡ take (t .nodes) area
+  pub more : r .done ≡ false → LaidBefore t nodes operands roots v after r × (left t nodes operands (take (t .nodes) area) roots (r .cursor) < left t nodes operands (take (t .nodes) area) roots (l .cursor))
+  pub all : r .done ≡ true → Laid v (most t) (dependencies t nodes operands (take (t .nodes) area) roots) (drop (t .nodes) after)
 
 -- no edge is laid behind the class words
-pub record Empty (v : ℕ) (area : List ℕ) : Type 0 where
-  pub zero-words : (k : ℕ) → k < 3 * v → getD (drop v area) k 0 ≡ 0
+pub record Empty (t : Counts) (v : ℕ) (area : List ℕ) : Type 0 where
+  pub zero-words : (k : ℕ) → k < 3 * v → getD (drop (t .nodes) area) k 0 ≡ 0
 
 -- all dependencies are laid, and the class words stay
 pub record AllLaid (t : Counts) (nodes operands roots : List ℕ) (v : ℕ) (area after : List ℕ) : Type 0 where
   pub long : length after ≡ length area
-  pub classes : take v after ≡ take v area
-  pub laid : Laid v (most t) (dependencies t nodes operands (take v area) roots) (drop v after)
+  pub classes : take (t .nodes) after ≡ take (t .nodes) area
+  pub laid : Laid v (most t) (dependencies t nodes operands (take (t .nodes) area) roots) (drop (t .nodes) after)

@@ -157,7 +157,7 @@ pub struct Laying {
     pub done: bool,
 }
 
-// Lays the dependency at the cursor, if there is one. The class words are the first v words of area; edges are laid behind them.
+// Lays the dependency at the cursor, if there is one. The class words of the nodes stand at the front of area; the edges of v vertices are laid behind them.
 fn lay_next(
     counts: Counts,
     nodes: &[u32],
@@ -171,10 +171,11 @@ fn lay_next(
     ensures { λ r. ⌜ LaidNext counts (now (nodes .entry)) (now (operands .entry)) (now (roots .entry)) v (now (area .entry)) (now (area .exit)) l r ⌝ }
 {
     let m = counts.operands + counts.nodes + counts.roots;
+    let n = counts.nodes;
     let cursor = l.cursor;
-    match next_dependency(counts, nodes, operands, roots, &area[..v], cursor) {
+    match next_dependency(counts, nodes, operands, roots, &area[..n], cursor) {
         Dependency::Next(source, target, next) => {
-            kahn::lay(&mut area[v..], v, m, l.laid, source, target);
+            kahn::lay(&mut area[n..], v, m, l.laid, source, target);
             Laying {
                 laid: l.laid + 1,
                 cursor: next,
@@ -203,7 +204,7 @@ fn lay_all(
     area: &mut [u32],
     v: usize,
 )
-    requires { ⌜ Ready counts (now nodes) (now operands) (now roots) v (now area) × Empty v (now area) ⌝ }
+    requires { ⌜ Ready counts (now nodes) (now operands) (now roots) v (now area) × Empty counts v (now area) ⌝ }
     ensures { λ _. ⌜ AllLaid counts (now (nodes .entry)) (now (operands .entry)) (now (roots .entry)) v (now (area .entry)) (now (area .exit)) ⌝ }
 {
     let mut l = Laying {
@@ -220,7 +221,7 @@ fn lay_all(
     }
 }
 
-// Derives the atoms' ranks, or finds the lowest atom on or behind a positive cycle. The ranks stand behind the first 3 v words of area.
+// Derives the atoms' ranks, or finds the lowest atom on or behind a positive cycle. The ranks stand 2 v words behind the class words.
 pub fn derive_ranks(
     counts: Counts,
     nodes: &[u32],
@@ -229,11 +230,12 @@ pub fn derive_ranks(
     area: &mut [u32],
     v: usize,
 ) -> Derivation
-    requires { ⌜ Ready counts (now nodes) (now operands) (now roots) v (now area) × Empty v (now area) ⌝ }
-    ensures { λ r. ⌜ answered r (part (3 * v) (counts .atoms) (now (area .exit))) ≡ derive (counts .atoms) v (dependencies counts (now (nodes .entry)) (now (operands .entry)) (take v (now (area .entry))) (now (roots .entry))) ⌝ }
-    ensures { λ r. ⌜ take v (now (area .exit)) ≡ take v (now (area .entry)) ⌝ }
+    requires { ⌜ Ready counts (now nodes) (now operands) (now roots) v (now area) × Empty counts v (now area) ⌝ }
+    ensures { λ r. ⌜ answered r (part (counts .nodes + 2 * v) (counts .atoms) (now (area .exit))) ≡ derive (counts .atoms) v (dependencies counts (now (nodes .entry)) (now (operands .entry)) (take (counts .nodes) (now (area .entry))) (now (roots .entry))) ⌝ }
+    ensures { λ r. ⌜ take (counts .nodes) (now (area .exit)) ≡ take (counts .nodes) (now (area .entry)) ⌝ }
 {
     lay_all(counts, nodes, operands, roots, area, v);
     let m = counts.operands + counts.nodes + counts.roots;
-    kahn::derive(&mut area[v..], counts.atoms, v, m)
+    let n = counts.nodes;
+    kahn::derive(&mut area[n..], counts.atoms, v, m)
 }
