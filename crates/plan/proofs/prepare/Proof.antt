@@ -1,0 +1,42 @@
+use borrow.Author.Needs.{needs}
+use Rattle.plan.proofs.prepare.Statement.{statement}
+use Rattle.plan.proofs.prepare.Tie as tie
+use Rattle.plan.proofs.prepare.Reads as reads
+use Rattle.plan.proofs.prepare.Lts as lts
+use Rattle.compile.proofs.classify.Reads as classify-reads
+use Rattle.compile.proofs.roots_supported.Reads as roots-supported-reads
+
+-- src/lib.rt:92:5
+classify-requires : tie.Need-classify-requires
+classify-requires c κs = search needs
+
+-- src/lib.rt:94:62
+slice-reshare-prefix-roots-supported : tie.Need-slice-reshare-prefix-roots-supported
+slice-reshare-prefix-roots-supported c = search needs
+
+-- src/lib.rt:94:62
+slice-aggregate-roots-supported : tie.Need-slice-aggregate-roots-supported
+slice-aggregate-roots-supported c = ?
+
+-- src/lib.rt:94:5
+roots-supported-requires : tie.Need-roots-supported-requires
+roots-supported-requires c κs = ?
+
+-- src/lib.rt:82:1
+same-length : tie.Need-same-length
+same-length c = search needs
+
+-- src/lib.rt:82:1
+returns : tie.Need-returns
+returns c = ?
+
+pub prepare-spec : {M : Type 1} → statement M
+prepare-spec =
+    tie.close
+    (tie.spec
+    classify-requires
+    slice-reshare-prefix-roots-supported
+    slice-aggregate-roots-supported
+    roots-supported-requires
+    same-length
+    returns)

@@ -1,0 +1,4 @@
+pub mod Buffers
+pub mod Filled
+pub mod Judged
+pub mod Outcome

@@ -1,0 +1,118 @@
+// The planner's public calls: everything is judged in the work area alone, then buffers 4, 5 and 6 are written.
+ghost use mathlib.Core.Path.{_≡_};
+ghost use Prim.Native.Nat.{ℕ, _+_, _*_, _<_, _≤_};
+ghost use lib.ListN.{length, replicate, getD, take, drop};
+ghost use mathlib.Core.List.{_++_};
+ghost use Rattle.base.specs.Front.{front};
+ghost use Rattle.theory.specs.Limits.{limitsOf, Limited};
+ghost use Rattle.theory.specs.Admission.{orElse, admission};
+ghost use Rattle.theory.specs.WellFormed.{NodeTables, RootTable};
+ghost use Rattle.compile.specs.ClassWord.{classWords};
+ghost use Rattle.compile.specs.Producers.{rootsSupported};
+ghost use Rattle.plan.specs.Buffers.{shortBuffer};
+use theory::Admission;
+use theory::Counts;
+use theory::Refusal;
+
+// The number of producers of an accepted theory, or the refusal.
+pub enum Planning {
+    Planned(usize),
+    Refused(Refusal),
+}
+
+// How long the lent buffers are.
+pub struct Lengths {
+    pub nodes: usize,
+    pub operands: usize,
+    pub roots: usize,
+    pub producers: usize,
+    pub ranks: usize,
+    pub readers: usize,
+    pub work: usize,
+}
+
+// Refusal 9.
+fn short_buffer(counts: Counts, l: Lengths) -> Admission
+    requires { ⌜ Limited counts ⌝ }
+    ensures { λ r. ⌜ r ≡ shortBuffer counts l ⌝ }
+{
+    if l.nodes < 3 * counts.nodes {
+        return Admission::Refused(Refusal::ShortBuffer(1));
+    }
+    if l.operands < counts.operands {
+        return Admission::Refused(Refusal::ShortBuffer(2));
+    }
+    if l.roots < counts.roots {
+        return Admission::Refused(Refusal::ShortBuffer(3));
+    }
+    if l.producers < 4 * counts.roots {
+        return Admission::Refused(Refusal::ShortBuffer(4));
+    }
+    if l.ranks < counts.atoms {
+        return Admission::Refused(Refusal::ShortBuffer(5));
+    }
+    if l.readers < 2 + counts.atoms + 4 * counts.nodes + counts.operands + 2 * counts.roots {
+        return Admission::Refused(Refusal::ShortBuffer(6));
+    }
+    if l.work
+        < 16
+            + 5 * (counts.atoms + counts.nodes)
+            + 3 * (counts.operands + counts.nodes + counts.roots)
+    {
+        return Admission::Refused(Refusal::ShortBuffer(8));
+    }
+    Admission::Admitted
+}
+
+// Refusals 3, 9, then 1, 6, 4, 5 by node and 7 by root.
+fn enter(counts: Counts, nodes: &[u32], operands: &[u32], roots: &[u32], l: Lengths) -> Admission
+    requires { ⌜ (l .nodes ≡ length (now nodes)) × (l .operands ≡ length (now operands)) × (l .roots ≡ length (now roots)) ⌝ }
+    ensures { λ r. ⌜ r ≡ orElse (limitsOf counts) (orElse (shortBuffer counts l) (admission counts (now (nodes .entry)) (now (operands .entry)) (now (roots .entry)))) ⌝ }
+{
+    if let Admission::Refused(r) = theory::limits(counts) {
+        return Admission::Refused(r);
+    }
+    if let Admission::Refused(r) = short_buffer(counts, l) {
+        return Admission::Refused(r);
+    }
+    theory::admit(counts, nodes, operands, roots)
+}
+
+// Class words at the front of a zeroed area, then refusals 10 and 11.
+fn prepare(
+    counts: Counts,
+    nodes: &[u32],
+    operands: &[u32],
+    roots: &[u32],
+    area: &mut [u32],
+) -> Admission
+    requires { ⌜ (counts .nodes ≤ length (now area)) × NodeTables counts (now nodes) (now operands) × RootTable counts (now roots) ⌝ }
+    ensures { λ r. ⌜ (r ≡ rootsSupported counts (now (nodes .entry)) (now (operands .entry)) (classWords (now (nodes .entry)) (now (operands .entry)) (counts .nodes)) (now (roots .entry))) × (now (area .exit) ≡ classWords (now (nodes .entry)) (now (operands .entry)) (counts .nodes) ++ drop (counts .nodes) (now (area .entry))) ⌝ }
+{
+    compile::classify(counts, nodes, operands, area);
+    let n = counts.nodes;
+    compile::roots_supported(counts, nodes, operands, roots, &area[..n])
+}
+
+// The first n words of the source, to the front of the buffer.
+fn copy(buffer: &mut [u32], source: &[u32], n: usize)
+    requires { ⌜ (n ≤ length (now buffer)) × (n ≤ length (now source)) ⌝ }
+    ensures { λ _. ⌜ now (buffer .exit) ≡ front (take n (now (source .entry))) (now (buffer .entry)) ⌝ }
+{
+    let mut i = 0;
+    while i < n {
+        buffer[i] = source[i];
+        i += 1;
+    }
+}
+
+// The whole area zero.
+fn clear(work: &mut [u32])
+    ensures { λ _. ⌜ now (work .exit) ≡ replicate (length (now (work .entry))) 0 ⌝ }
+{
+    let mut i = 0;
+    while i < work.len() {
+        work[i] = 0;
+        i += 1;
+    }
+}
