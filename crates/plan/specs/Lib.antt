@@ -1,4 +1,6 @@
 pub mod Buffers
 pub mod Filled
+pub mod Prepared
 pub mod Judged
 pub mod Outcome
+pub mod JudgedIn

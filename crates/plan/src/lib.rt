@@ -9,7 +9,10 @@ ghost use Rattle.theory.specs.Admission.{orElse, admission};
 ghost use Rattle.theory.specs.WellFormed.{NodeTables, RootTable};
 ghost use Rattle.compile.specs.ClassWord.{classWords};
 ghost use Rattle.compile.specs.Producers.{rootsSupported};
+ghost use Rattle.dependency.specs.Laying.{Ready};
 ghost use Rattle.plan.specs.Buffers.{shortBuffer};
+ghost use Rattle.plan.specs.JudgedIn.{Zero, DerivedIn, ProposedIn};
+use kahn::Derivation;
 use theory::Admission;
 use theory::Counts;
 use theory::Refusal;
@@ -115,4 +118,46 @@ fn clear(work: &mut [u32])
         work[i] = 0;
         i += 1;
     }
+}
+
+// Refusals 10 and 11, then 12, in a zeroed area; if there is none, the class words stand at its front and the ranks 2 v words behind them.
+fn judge_derived(
+    counts: Counts,
+    nodes: &[u32],
+    operands: &[u32],
+    roots: &[u32],
+    area: &mut [u32],
+) -> Admission
+    requires { ⌜ Ready counts (now nodes) (now operands) (now roots) (counts .atoms + counts .nodes) (now area) × Zero (now area) ⌝ }
+    ensures { λ r. ⌜ DerivedIn counts (now (nodes .entry)) (now (operands .entry)) (now (roots .entry)) (now (area .exit)) r ⌝ }
+{
+    let supported = prepare(counts, nodes, operands, roots, area);
+    if let Admission::Refused(r) = supported {
+        return Admission::Refused(r);
+    }
+    let v = counts.atoms + counts.nodes;
+    match dependency::derive_ranks(counts, nodes, operands, roots, area, v) {
+        Derivation::Ranks => Admission::Admitted,
+        Derivation::Cycle(a) => Admission::Refused(Refusal::PositiveCycle(a)),
+    }
+}
+
+// Refusals 10 and 11, then 13 and 14, in a zeroed area; if there is none, the class words stand at its front.
+fn judge_proposed(
+    counts: Counts,
+    nodes: &[u32],
+    operands: &[u32],
+    roots: &[u32],
+    proposed: &[u32],
+    area: &mut [u32],
+) -> Admission
+    requires { ⌜ Ready counts (now nodes) (now operands) (now roots) (counts .atoms + counts .nodes) (now area) ⌝ }
+    ensures { λ r. ⌜ ProposedIn counts (now (nodes .entry)) (now (operands .entry)) (now (roots .entry)) (now (proposed .entry)) (now (area .exit)) r ⌝ }
+{
+    let supported = prepare(counts, nodes, operands, roots, area);
+    if let Admission::Refused(r) = supported {
+        return Admission::Refused(r);
+    }
+    let n = counts.nodes;
+    ranks::rank_check(counts, nodes, operands, roots, proposed, area, n)
 }
