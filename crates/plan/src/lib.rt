@@ -8,9 +8,13 @@ ghost use Rattle.theory.specs.Limits.{limitsOf, Limited};
 ghost use Rattle.theory.specs.Admission.{orElse, admission};
 ghost use Rattle.theory.specs.WellFormed.{NodeTables, RootTable};
 ghost use Rattle.compile.specs.ClassWord.{classWords};
-ghost use Rattle.compile.specs.Producers.{rootsSupported};
+ghost use Rattle.compile.specs.Producers.{rootsSupported, producerWords};
+ghost use Rattle.compile.specs.ProducersLaws.{producersBefore};
+ghost use Rattle.readers.specs.ReaderTable.{built};
 ghost use Rattle.dependency.specs.Laying.{Ready};
-ghost use Rattle.plan.specs.Buffers.{shortBuffer};
+ghost use Rattle.plan.specs.Buffers.{shortBuffer, readersLength};
+ghost use Rattle.plan.specs.Outcome.{outcome, planned};
+ghost use Rattle.plan.specs.Finished.{Finished, Entered, rankedBy, derivedRanks};
 ghost use Rattle.plan.specs.JudgedIn.{Zero, DerivedIn, ProposedIn};
 use kahn::Derivation;
 use theory::Admission;
@@ -160,4 +164,81 @@ fn judge_proposed(
     }
     let n = counts.nodes;
     ranks::rank_check(counts, nodes, operands, roots, proposed, area, n)
+}
+
+// Buffers 4 and 6 of an accepted theory; answers the number of producers.
+fn write(
+    counts: Counts,
+    nodes: &[u32],
+    operands: &[u32],
+    roots: &[u32],
+    classes: &[u32],
+    producers: &mut [u32],
+    readers: &mut [u64],
+) -> usize
+    requires { ⌜ Limited counts × NodeTables counts (now nodes) (now operands) × RootTable counts (now roots) × (counts .nodes ≤ length (now classes)) × (4 * counts .roots ≤ length (now producers)) × (readersLength counts ≤ length (now readers)) ⌝ }
+    ensures { λ r. ⌜ r ≡ length (producersBefore (now (nodes .entry)) (now (operands .entry)) (now (classes .entry)) (now (roots .entry)) (counts .roots)) ⌝ }
+    ensures { λ r. ⌜ now (producers .exit) ≡ front (producerWords (producersBefore (now (nodes .entry)) (now (operands .entry)) (now (classes .entry)) (now (roots .entry)) (counts .roots))) (now (producers .entry)) ⌝ }
+    ensures { λ r. ⌜ now (readers .exit) ≡ built counts (now (nodes .entry)) (now (operands .entry)) (now (roots .entry)) (now (producers .exit)) r (now (readers .entry)) ⌝ }
+{
+    let p = compile::extract(counts, nodes, operands, roots, classes, producers);
+    readers::build(counts, nodes, operands, roots, producers, p, readers);
+    p
+}
+
+// Buffers 4, 5 and 6 of an accepted theory, its ranks at the front of source; answers the number of producers.
+fn finish(
+    counts: Counts,
+    nodes: &[u32],
+    operands: &[u32],
+    roots: &[u32],
+    classes: &[u32],
+    source: &[u32],
+    producers: &mut [u32],
+    ranks: &mut [u32],
+    readers: &mut [u64],
+) -> usize
+    requires { ⌜ Limited counts × NodeTables counts (now nodes) (now operands) × RootTable counts (now roots) × (counts .nodes ≤ length (now classes)) × (counts .atoms ≤ length (now source)) ⌝ }
+    requires { ⌜ (4 * counts .roots ≤ length (now producers)) × (counts .atoms ≤ length (now ranks)) × (readersLength counts ≤ length (now readers)) ⌝ }
+    ensures { λ r. ⌜ Finished counts (now (nodes .entry)) (now (operands .entry)) (now (roots .entry)) (now (classes .entry)) (now (source .entry)) (now (producers .entry)) (now (ranks .entry)) (now (readers .entry)) (now (producers .exit)) (now (ranks .exit)) (now (readers .exit)) r ⌝ }
+{
+    let p = write(counts, nodes, operands, roots, classes, producers, readers);
+    copy(ranks, source, counts.atoms);
+    p
+}
+
+// An entered theory, its ranks derived.
+fn plan_entered(
+    counts: Counts,
+    nodes: &[u32],
+    operands: &[u32],
+    roots: &[u32],
+    producers: &mut [u32],
+    ranks: &mut [u32],
+    readers: &mut [u64],
+    work: &mut [u32],
+) -> Planning
+    requires { ⌜ Entered counts (now nodes) (now operands) (now roots) (length (now producers)) (length (now ranks)) (length (now readers)) (now work) ⌝ }
+    ensures { λ r. ⌜ outcome r (now (producers .exit)) (now (ranks .exit)) (now (readers .exit)) (now (work .exit)) ≡ planned counts (now (nodes .entry)) (now (operands .entry)) (now (roots .entry)) (now (producers .entry)) (now (ranks .entry)) (now (readers .entry)) (now (work .entry)) (rankedBy counts (now (nodes .entry)) (now (operands .entry)) (now (roots .entry))) (derivedRanks counts (now (nodes .entry)) (now (operands .entry)) (now (roots .entry))) ⌝ }
+{
+    let judged = judge_derived(counts, nodes, operands, roots, &mut work[16..]);
+    if let Admission::Refused(r) = judged {
+        clear(work);
+        return Planning::Refused(r);
+    }
+    let end = 16 + counts.nodes;
+    let at = end + 2 * (counts.atoms + counts.nodes);
+    let p = finish(
+        counts,
+        nodes,
+        operands,
+        roots,
+        &work[16..end],
+        &work[at..],
+        producers,
+        ranks,
+        readers,
+    );
+    clear(work);
+    Planning::Planned(p)
 }
