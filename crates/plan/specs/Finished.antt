@@ -5,7 +5,7 @@ use native.Mathlib.Omega.{arith}
 use mathlib.Core.Path.{_≡_, refl, ap, sym, _∙_}
 use mathlib.Core.List.{List, _++_}
 use lib.ListN.{length, getD, take, drop, replicate, length-drop}
-use lib.Seq.{getD-drop, take-take, drop-drop}
+use lib.Seq.{getD-drop, take-take, drop-drop, length-take-le}
 use Rattle.base.specs.Front.{front}
 use Rattle.theory.specs.Admission.{orElse, spanStart}
 use Rattle.theory.specs.Limits.{Limited}
@@ -19,7 +19,9 @@ use Rattle.compile.specs.Producers.{rootsSupported, producerWords}
 use Rattle.compile.specs.ProducersLaws.{producersBefore}
 use Rattle.readers.specs.ReaderTable.{built}
 use Rattle.ranks.specs.RankCheck.{rankCheck}
+use Rattle.kahn.specs.Area.{part}
 use Rattle.dependency.specs.Laying.{Ready}
+use Rattle.dependency.specs.LayingLaws.{tail-long, tail-back}
 use Rattle.plan.specs.Buffers.{readersLength, workLength}
 use Rattle.plan.specs.Judged.{derived, acyclic}
 use Rattle.plan.specs.Outcome.{outcome, zeroed, producersOf, planned, ranksOf}
@@ -82,3 +84,33 @@ module _ (t : Counts) (nodes operands roots : List ℕ) (ps rs us : ℕ) (work :
 
   pub area-zero : (area : List ℕ) → area ≡ drop 16 work → Zero area
   area-zero area e = record { at = λ k. rw e (getD-drop 16 work k 0 ∙ entered .work-zero .at (16 + k)) }
+
+-- the work area once its part behind the first 16 words came back as ys
+module _ (work ys : List ℕ) (fits : 16 ≤ length work) (same : length ys ≡ length (drop 16 work)) where
+  abbrev pub last : List ℕ
+  last = take 16 work ++ (ys ++ drop (length work - 16) (drop 16 work))
+
+  pub last-long : length last ≡ length work
+  last-long = tail-long 16 work ys fits same
+
+  pub classes-part : (n : ℕ) → take (16 + n - 16) (drop 16 last) ≡ take n ys
+  classes-part n = let e : 16 + n - 16 ≡ n = omega arith in rw (tail-back 16 work ys fits, e)
+
+  module _ (n v a : ℕ) where
+    pub source-part : 16 + n + 2 * v + a ≤ length work → take a (take (length last - (16 + n + 2 * v)) (drop (16 + n + 2 * v) last)) ≡ part (n + 2 * v) a ys
+    source-part h =
+        take-take a (length last - (16 + n + 2 * v)) (drop (16 + n + 2 * v) last) (omega (arith, last-long))
+        ∙ ap (take a)
+        (ap (λ m. drop m last) sum ∙ sym (drop-drop (n + 2 * v) 16 last) ∙ ap (drop (n + 2 * v)) (tail-back 16 work ys fits))
+      where
+        sum : 16 + n + 2 * v ≡ 16 + (n + 2 * v)
+        sum = omega arith
+
+    pub source-long : 16 + n + 2 * v + a ≤ length work → a ≤ length (take (length last - (16 + n + 2 * v)) (drop (16 + n + 2 * v) last))
+    source-long h =
+        rw (length-take-le (length last - (16 + n + 2 * v)) (drop (16 + n + 2 * v) last) (omega (arith, length-drop (16 + n + 2 * v) last)))
+        (omega (arith, last-long))
+
+  pub classes-long : (n : ℕ) → 16 + n ≤ length work → n ≤ length (take (16 + n - 16) (drop 16 last))
+  classes-long n h =
+      rw (classes-part n) (omega (arith, length-take-le n ys (omega (arith, length-drop 16 work))))
