@@ -6,3 +6,4 @@ pub mod Judged
 pub mod Outcome
 pub mod JudgedIn
 pub mod Finished
+pub mod Called

@@ -13,8 +13,8 @@ ghost use Rattle.compile.specs.ProducersLaws.{producersBefore};
 ghost use Rattle.readers.specs.ReaderTable.{built};
 ghost use Rattle.dependency.specs.Laying.{Ready};
 ghost use Rattle.plan.specs.Buffers.{shortBuffer, readersLength};
-ghost use Rattle.plan.specs.Outcome.{outcome, planned};
-ghost use Rattle.plan.specs.Finished.{Finished, Entered, rankedBy, derivedRanks};
+ghost use Rattle.plan.specs.Outcome.{outcome, planned, planOutcome, certifyOutcome};
+ghost use Rattle.plan.specs.Finished.{Finished, Entered, rankedBy, derivedRanks, acceptedBy};
 ghost use Rattle.plan.specs.JudgedIn.{Zero, DerivedIn, ProposedIn};
 use kahn::Derivation;
 use theory::Admission;
@@ -241,4 +241,118 @@ fn plan_entered(
     );
     clear(work);
     Planning::Planned(p)
+}
+
+// An entered theory with proposed ranks.
+fn certify_entered(
+    counts: Counts,
+    nodes: &[u32],
+    operands: &[u32],
+    roots: &[u32],
+    proposed: &[u32],
+    producers: &mut [u32],
+    ranks: &mut [u32],
+    readers: &mut [u64],
+    work: &mut [u32],
+) -> Planning
+    requires { ⌜ Entered counts (now nodes) (now operands) (now roots) (length (now producers)) (length (now ranks)) (length (now readers)) (now work) ⌝ }
+    ensures { λ r. ⌜ outcome r (now (producers .exit)) (now (ranks .exit)) (now (readers .exit)) (now (work .exit)) ≡ planned counts (now (nodes .entry)) (now (operands .entry)) (now (roots .entry)) (now (producers .entry)) (now (ranks .entry)) (now (readers .entry)) (now (work .entry)) (acceptedBy counts (now (nodes .entry)) (now (operands .entry)) (now (roots .entry)) (now (proposed .entry))) (now (proposed .entry)) ⌝ }
+{
+    let judged = judge_proposed(counts, nodes, operands, roots, proposed, &mut work[16..]);
+    if let Admission::Refused(r) = judged {
+        clear(work);
+        return Planning::Refused(r);
+    }
+    let end = 16 + counts.nodes;
+    let p = finish(
+        counts,
+        nodes,
+        operands,
+        roots,
+        &work[16..end],
+        proposed,
+        producers,
+        ranks,
+        readers,
+    );
+    clear(work);
+    Planning::Planned(p)
+}
+
+// Plans a theory: producers, ranks and reader lists, or the refusal; the work area is zero after every call.
+pub fn plan(
+    counts: Counts,
+    nodes: &[u32],
+    operands: &[u32],
+    roots: &[u32],
+    producers: &mut [u32],
+    ranks: &mut [u32],
+    readers: &mut [u64],
+    work: &mut [u32],
+) -> Planning
+    ensures { λ r. ⌜ outcome r (now (producers .exit)) (now (ranks .exit)) (now (readers .exit)) (now (work .exit)) ≡ planOutcome counts (now (nodes .entry)) (now (operands .entry)) (now (roots .entry)) (now (producers .entry)) (now (ranks .entry)) (now (readers .entry)) (now (work .entry)) ⌝ }
+{
+    clear(work);
+    let l = Lengths {
+        nodes: nodes.len(),
+        operands: operands.len(),
+        roots: roots.len(),
+        producers: producers.len(),
+        ranks: ranks.len(),
+        readers: readers.len(),
+        work: work.len(),
+    };
+    if let Admission::Refused(r) = enter(counts, nodes, operands, roots, l) {
+        return Planning::Refused(r);
+    }
+    plan_entered(
+        counts,
+        nodes,
+        operands,
+        roots,
+        producers,
+        ranks,
+        readers,
+        work,
+    )
+}
+
+// The same with proposed ranks, which are copied once they are accepted.
+pub fn certify(
+    counts: Counts,
+    nodes: &[u32],
+    operands: &[u32],
+    roots: &[u32],
+    proposed: &[u32],
+    producers: &mut [u32],
+    ranks: &mut [u32],
+    readers: &mut [u64],
+    work: &mut [u32],
+) -> Planning
+    ensures { λ r. ⌜ outcome r (now (producers .exit)) (now (ranks .exit)) (now (readers .exit)) (now (work .exit)) ≡ certifyOutcome counts (now (nodes .entry)) (now (operands .entry)) (now (roots .entry)) (now (proposed .entry)) (now (producers .entry)) (now (ranks .entry)) (now (readers .entry)) (now (work .entry)) ⌝ }
+{
+    clear(work);
+    let l = Lengths {
+        nodes: nodes.len(),
+        operands: operands.len(),
+        roots: roots.len(),
+        producers: producers.len(),
+        ranks: ranks.len(),
+        readers: readers.len(),
+        work: work.len(),
+    };
+    if let Admission::Refused(r) = enter(counts, nodes, operands, roots, l) {
+        return Planning::Refused(r);
+    }
+    certify_entered(
+        counts,
+        nodes,
+        operands,
+        roots,
+        proposed,
+        producers,
+        ranks,
+        readers,
+        work,
+    )
 }
