@@ -10,7 +10,8 @@ use lib.ListN.{length, getD}
 use borrow.Author.Tests.{lt-ltb, le-ltb, le-leb, lt-leb, leb-true}
 use Rattle.base.specs.Tests.{same-test}
 use Rattle.theory.specs.Admission.{allBelow}
-use Rattle.record.specs.Number.{number, numbers, risingFrom, rising}
+use Rattle.record.specs.Number.{number, numbers}
+use Rattle.record.specs.Rising.{risingFrom, rising}
 use Rattle.record.specs.Layout.{counted, arity, valueCount, valuesStart, recordEnd}
 use Rattle.record.specs.declared.Mark.{Mark}
 
