@@ -1,16 +1,15 @@
 -- What `load` writes is admitted by `theory` and within the limits: planning a loaded file refuses none of 3, 1, 6, 4, 5, 7.
 -- Assumes nothing.
-use Prim.Native.Nat.{ℕ, zero, suc, _+_, _-_, _*_, _<_, _≤_}
+use Prim.Native.Nat.{ℕ, _*_}
 use native.Mathlib.Omega.{arith}
-use mathlib.Core.Path.{_≡_, refl, sym, ap, _∙_}
+use mathlib.Core.Path.{_≡_, refl, ap, _∙_}
 use mathlib.Core.Bool.{Bool, true, false, cond, false≢true}
-use mathlib.Core.List.{List, [], _∷_, _++_}
+use mathlib.Core.List.{List, _++_}
 use lib.Dec.{ltb}
-use lib.ListN.{length, drop, length-append}
-use borrow.Author.Tests.{le-ltb, ltb-false}
+use lib.ListN.{length, length-append}
+use borrow.Author.Tests.{le-ltb}
 use Rattle.theory.specs.Admission.{spanStart, admission}
-use Rattle.theory.specs.Limits.{limitsOf, Limited, Lent}
-use Rattle.theory.specs.WellFormed.{WellFormed}
+use Rattle.theory.specs.Limits.{limitsOf}
 use Rattle.theory.specs.declared.Counts.{Counts}
 use Rattle.theory.specs.declared.Admission.the-variants as admission
 use Rattle.theory.specs.declared.Refusal.the-variants.{ShortBuffer}
@@ -31,7 +30,6 @@ use Rattle.record.proofs.Steps.{next-passed, passed-fields, fixed-least}
 use Rattle.record.proofs.Judging.{read-keeps, sound-limited}
 use Rattle.load.specs.Tables.{Tables, over, holding}
 use Rattle.load.specs.Loading.{loading, loadingSound, outcome}
-use Rattle.load.specs.declared.Loaded.{Loaded}
 use Rattle.load.specs.declared.Loaded.the-variants.{Sound, Refused}
 use Rattle.load.proofs.Laws.{sizes}
 use Rattle.load.proofs.Formed.{Formed, record-formed, formed-extends}

@@ -1,11 +1,11 @@
 -- The candidates of a sound file: each begins where the last one ended, and `candidate` may be called at its place.
 -- Assumes nothing.
-use Prim.Native.Nat.{ℕ, zero, suc, _+_, _-_, _*_, _<_, _≤_}
+use Prim.Native.Nat.{ℕ, _+_, _<_, _≤_}
 use native.Mathlib.Numerals.{add-one}
 use native.Mathlib.Omega.{arith}
 use mathlib.Core.Path.{_≡_, refl, sym, ap, subst, _∙_}
 use mathlib.Core.Logic.{⊎-elim}
-use mathlib.Core.Bool.{Bool, true, false, false≢true}
+use mathlib.Core.Bool.{true, false, false≢true}
 use mathlib.Core.List.{List, [], _∷_, _++_, append-nil}
 use lib.ListN.{length, getD, length-append, List·getD-append}
 use lib.Seq.{getD-at}
@@ -13,7 +13,6 @@ use lib.Dec.{eqb}
 use borrow.Author.Tests.{eqb-true}
 use Rattle.base.specs.Tests.{below-or, either}
 use Rattle.base.specs.Each.{Each}
-use Rattle.theory.specs.Admission.{allBelow}
 use Rattle.theory.specs.Spans.{all-below-each}
 use Rattle.record.specs.Mark.{markAt, inOrder}
 use Rattle.record.specs.Layout.{recordEnd, valuesOf}

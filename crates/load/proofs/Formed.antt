@@ -5,14 +5,14 @@ use native.Mathlib.Numerals.{add-one}
 use native.Mathlib.Omega.{arith}
 use mathlib.Core.Path.{_≡_, refl, sym, ap, _∙_}
 use mathlib.Core.Logic.{⊎-elim}
-use mathlib.Core.Bool.{Bool, true, false, not, false≢true}
+use mathlib.Core.Bool.{Bool, true, false, false≢true}
 use mathlib.Core.List.{List, [], _∷_, _++_, append-nil}
 use lib.Dec.{eqb}
-use lib.ListN.{length, getD, take, drop, length-drop, List·getD-append}
+use lib.ListN.{length, getD, drop, length-drop, List·getD-append}
 use lib.Seq.{getD-append-add, drop-append-le, take-append-le, drop-append-seam, take-length}
 use borrow.Author.Tests.{eqb-true, eqb-false, not-true}
 use Rattle.base.specs.Tests.{below-or}
-use Rattle.base.specs.Each.{Each, each-at}
+use Rattle.base.specs.Each.{each-at}
 use Rattle.theory.specs.Node.{decoded, nodeAt, span}
 use Rattle.theory.specs.Admission.{allBelow, spanEnd, spanStart}
 use Rattle.theory.specs.WellFormed.{SpanFormed, NodeFormed, WellFormed}

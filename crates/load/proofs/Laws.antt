@@ -1,29 +1,27 @@
 -- What each function that writes leaves, said by the definitions.
 -- Assumes nothing.
-use Prim.Native.Nat.{ℕ, zero, suc, _+_, _-_, _*_, _/_, _<_, _≤_}
+use Prim.Native.Nat.{ℕ, suc, _+_, _-_, _*_, _<_, _≤_}
 use native.Mathlib.Numerals.{add-one}
 use native.Mathlib.Omega.{arith}
 use mathlib.Core.Path.{_≡_, refl, sym, ap, _∙_}
-use mathlib.Core.List.{List, [], _∷_, _++_}
-use lib.ListN.{length, getD, take, drop, set}
+use mathlib.Core.List.{List, [], _∷_}
+use lib.ListN.{length, set}
 use lib.Seq.{sets-eq, paste, paste-zero, paste-suc, take-all}
 use Rattle.theory.specs.declared.Counts.{Counts}
-use Rattle.record.specs.Mark.{markAt}
 use Rattle.record.specs.Number.{number, numbers}
-use Rattle.record.specs.Layout.{valuesStart, valueCount, valuesOf}
+use Rattle.record.specs.Layout.{valuesOf}
 use Rattle.record.specs.Passed.{countsAfter}
 use Rattle.record.specs.Contents.{ofRecord, ofNext}
 use Rattle.record.specs.declared.Cursor.{Cursor}
 use Rattle.record.specs.declared.Mark.{Mark}
 use Rattle.record.specs.declared.Mark.the-variants.{Theory, Atom, False, Implies, And, Or, Root, Candidate, Unknown}
 use Rattle.record.specs.declared.Values.{Values}
-use Rattle.record.proofs.Laws.{length-numbers, numbers-at, numbers-turn, numbers-none, numbers-all}
+use Rattle.record.proofs.Laws.{length-numbers, numbers-at, numbers-turn, numbers-none}
 use Rattle.words.specs.Sets.{inserted}
-use Rattle.load.specs.Tables.{Tables, tables}
-use Rattle.load.specs.Store.{placed, wordsOf, operandCount, rootCount, stored}
+use Rattle.load.specs.Tables.{tables}
+use Rattle.load.specs.Store.{placed, operandCount, rootCount, stored}
 use Rattle.load.specs.Room.{Stands}
 use Rattle.load.specs.Candidate.{insertedAll}
-use Rattle.load.specs.declared.Added.{Added}
 
 -- ---- words put in a place
 

@@ -1,7 +1,7 @@
 -- What the definition of `load` gives of a sound file, at each exit.
 -- Assumes nothing.
 use Prim.Native.Nat.{ℕ, _*_, _<_, _≤_}
-use mathlib.Core.Path.{_≡_, refl, sym, ap, _∙_}
+use mathlib.Core.Path.{_≡_, sym, ap}
 use mathlib.Core.List.{List}
 use lib.ListN.{length}
 use borrow.Author.Tests.{lt-ltb, le-ltb}
@@ -10,10 +10,9 @@ use Rattle.theory.specs.declared.Refusal.the-variants.{ShortBuffer}
 use Rattle.record.specs.File.{start, theoryFile, verdict}
 use Rattle.record.specs.declared.Summary.{Summary}
 use Rattle.record.specs.declared.Judged.the-variants as judgment
-use Rattle.load.specs.Tables.{Tables, holding}
-use Rattle.load.specs.Loading.{Outcome, outcome, loading, loadingSound}
+use Rattle.load.specs.Tables.{Tables}
+use Rattle.load.specs.Loading.{outcome, loading, loadingSound}
 use Rattle.load.specs.Store.{storedFrom}
-use Rattle.load.specs.declared.Loaded.{Loaded}
 use Rattle.load.specs.declared.Loaded.the-variants.{Sound, Refused}
 use Rattle.record.proofs.Judging.{contentsOf, sound-is, refused-is}
 use Rattle.load.proofs.Storing.{tables-hold}

@@ -4,21 +4,20 @@ use Prim.Native.Nat.{ℕ, zero, suc, _+_, _-_, _*_, _<_, _≤_}
 use native.Mathlib.Omega.{arith}
 use mathlib.Core.Path.{_≡_, refl, sym, ap, _∙_}
 use mathlib.Core.Bool.{Bool, true, false, cond}
-use mathlib.Core.List.{List, [], _∷_, _++_, append-assoc}
+use mathlib.Core.List.{List, _++_}
 use lib.Dec.{eqb}
-use lib.ListN.{length, take, drop, length-append}
+use lib.ListN.{length, drop, length-append}
 use lib.Seq.{take-append-seam, drop-append-add, drop-drop}
 use borrow.Author.Tests.{eq-eqb, ne-eqb}
-use Rattle.theory.specs.Limits.{Lent, Limited}
-use Rattle.theory.specs.declared.Refusal.{Refusal}
+use Rattle.theory.specs.Limits.{Lent}
 use Rattle.theory.specs.declared.Refusal.the-variants.{BadKind}
 use Rattle.record.specs.Mark.{markAt}
 use Rattle.record.specs.Number.{numbers}
 use Rattle.record.specs.Layout.{valuesStart, valueCount, recordEnd, valuesOf}
 use Rattle.record.specs.Passed.{countsAfter, passed}
 use Rattle.record.specs.Record.{judged}
-use Rattle.record.specs.Contents.{Contents, nothing, joined, ofRecord, ofNext}
-use Rattle.record.specs.File.{File, sound, refused, summary, ended, readFrom, start, theoryFile, verdict}
+use Rattle.record.specs.Contents.{Contents, nothing, joined, ofNext}
+use Rattle.record.specs.File.{sound, refused, summary, ended, readFrom, start, theoryFile, verdict}
 use Rattle.record.specs.Bounds.{Within}
 use Rattle.record.specs.declared.Summary.{Summary}
 use Rattle.record.specs.declared.Cursor.{Cursor}
@@ -27,9 +26,9 @@ use Rattle.record.specs.declared.Values.{Values}
 use Rattle.record.specs.declared.Step.{Step}
 use Rattle.record.specs.declared.Step.the-variants.{Next, Refused}
 use Rattle.record.specs.declared.Judged.the-variants as judgment
-use Rattle.record.proofs.Steps.{Passed, next-passed, next-within, passed-fields}
+use Rattle.record.proofs.Steps.{next-passed, next-within, passed-fields}
 use Rattle.record.proofs.Judging.{read-refused, read-next, verdict-same, contentsOf, sound-is}
-use Rattle.load.specs.Tables.{Tables, tables, over, holding}
+use Rattle.load.specs.Tables.{Tables, over, holding}
 use Rattle.load.specs.Store.{placed, stored, storedFrom}
 use Rattle.load.specs.Room.{Fits, Stands}
 use Rattle.load.proofs.Laws.{sizes}

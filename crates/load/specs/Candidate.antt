@@ -2,8 +2,9 @@
 -- Assumes nothing.
 use Prim.Native.Nat.{ℕ, zero, suc, _+_, _/_, _≤_}
 use mathlib.Core.Path.{_≡_}
-use mathlib.Core.Bool.{true}
+use mathlib.Core.Bool.{Bool, true, false, _||_}
 use mathlib.Core.List.{List, [], _∷_}
+use lib.Dec.{eqb}
 use lib.ListN.{length, replicate}
 use Rattle.words.specs.Sets.{inserted}
 use Rattle.theory.specs.Admission.{allBelow}
@@ -21,6 +22,11 @@ wordCount atoms = (atoms + 63) / 64
 
 unfoldable pub candidateWords : ℕ → List ℕ → List ℕ
 candidateWords atoms vs = insertedAll (replicate (wordCount atoms) 0) vs
+
+-- a is one of them
+unfoldable pub among : ℕ → List ℕ → Bool
+among a [] = false
+among a (b ∷ bs) = eqb b a || among a bs
 
 -- a whole candidate over so many atoms begins at `at`
 pub record CandidateAt (file : List ℕ) (atoms at : ℕ) : Type 0 where

@@ -1,6 +1,6 @@
 -- What `load` gives: the answer and the tables as it leaves them. A refusal leaves them as they were.
 -- Assumes nothing.
-use Prim.Native.Nat.{ℕ, _*_}
+use Prim.Native.Nat.{_*_}
 use mathlib.Core.Bool.{cond}
 use lib.Dec.{ltb}
 use lib.ListN.{length}

@@ -6,11 +6,10 @@ use mathlib.Core.List.{List, [], _∷_, _++_}
 use lib.Dec.{eqb}
 use lib.ListN.{length, take, drop}
 use Rattle.record.specs.Record.{judged}
-use Rattle.record.specs.Contents.{Contents, ofNext}
+use Rattle.record.specs.Contents.{ofNext}
 use Rattle.record.specs.declared.Cursor.{Cursor}
 use Rattle.record.specs.declared.Mark.{Mark}
 use Rattle.record.specs.declared.Mark.the-variants.{Theory, Atom, False, Implies, And, Or, Root, Candidate, Unknown}
-use Rattle.record.specs.declared.Step.{Step}
 use Rattle.record.specs.declared.Step.the-variants.{Next, Refused}
 use Rattle.load.specs.Tables.{Tables}
 use Rattle.load.specs.declared.Added.{Added}

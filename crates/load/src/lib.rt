@@ -1,7 +1,7 @@
 // The tables and the candidates of a theory file, written into lent buffers.
 ghost use mathlib.Core.Path.{_≡_};
 ghost use mathlib.Core.List.{_++_};
-ghost use Prim.Native.Nat.{ℕ, _+_, _*_, _/_, _<_, _≤_};
+ghost use Prim.Native.Nat.{_+_, _*_, _/_, _<_, _≤_};
 ghost use lib.ListN.{length, drop, replicate};
 ghost use Rattle.base.specs.Each.{Each};
 ghost use Rattle.theory.specs.Limits.{Limited, Lent};
@@ -12,7 +12,7 @@ ghost use Rattle.record.specs.Contents.{ofRecord};
 ghost use Rattle.record.specs.Bounds.{Within};
 ghost use Rattle.record.specs.File.{theoryFile, verdict, start};
 ghost use Rattle.load.specs.Tables.{tables};
-ghost use Rattle.load.specs.Loading.{outcome, loading, loadingSound};
+ghost use Rattle.load.specs.Loading.{outcome, loading};
 ghost use Rattle.load.specs.Store.{placed, wordsOf, operandCount, rootCount, stored, storedFrom};
 ghost use Rattle.load.specs.Candidate.{insertedAll, wordCount, candidateWords, CandidateAt};
 ghost use Rattle.load.specs.Room.{Fits, Stands};

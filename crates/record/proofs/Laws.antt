@@ -3,14 +3,15 @@
 use Prim.Native.Nat.{ℕ, zero, suc, _+_, _-_, _*_, _<_, _≤_}
 use native.Mathlib.Omega.{arith}
 use mathlib.Core.Path.{_≡_, refl, sym, ap, _∙_}
-use mathlib.Core.Bool.{Bool, true, false, _&&_}
+use mathlib.Core.Bool.{Bool, true, false}
 use mathlib.Core.List.{List, [], _∷_}
-use lib.Dec.{ltb, leb}
+use lib.Dec.{leb}
 use lib.ListN.{length, getD}
 use borrow.Author.Tests.{lt-ltb, le-ltb, le-leb, lt-leb, leb-true}
 use Rattle.base.specs.Tests.{same-test}
 use Rattle.theory.specs.Admission.{allBelow}
-use Rattle.record.specs.Number.{number, numbers, risingFrom, rising}
+use Rattle.record.specs.Number.{number, numbers}
+use Rattle.record.specs.Rising.{risingFrom, rising}
 use Rattle.record.specs.Layout.{counted, arity, valueCount, valuesStart, recordEnd}
 use Rattle.record.specs.declared.Mark.{Mark}
 

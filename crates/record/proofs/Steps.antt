@@ -1,22 +1,21 @@
 -- What the definition of one record gives at each exit, and what is known of the cursor past a record.
 -- Assumes nothing.
-use Prim.Native.Nat.{ℕ, zero, suc, _+_, _-_, _*_, _<_, _≤_}
+use Prim.Native.Nat.{ℕ, _+_, _-_, _*_, _<_, _≤_}
 use native.Mathlib.Omega.{arith}
-use mathlib.Core.Path.{_≡_, refl, sym, ap, _∙_}
+use mathlib.Core.Path.{_≡_, refl}
 use mathlib.Core.Bool.{Bool, true, false, cond, false≢true}
-use mathlib.Core.List.{List, [], _∷_}
-use lib.Dec.{eqb, ltb, leb}
-use lib.ListN.{length, getD}
+use mathlib.Core.List.{List}
+use lib.Dec.{ltb, leb}
+use lib.ListN.{length}
 use borrow.Author.Tests.{lt-leb, le-leb, leb-true, ltb-false}
 use Rattle.theory.specs.Limits.{limitsOf, Limited}
-use Rattle.theory.specs.Admission.{allBelow}
 use Rattle.theory.specs.declared.Counts.{Counts}
 use Rattle.theory.specs.declared.Admission.{Admission}
 use Rattle.theory.specs.declared.Admission.the-variants as admission
 use Rattle.theory.specs.declared.Refusal.{Refusal}
-use Rattle.theory.specs.declared.Refusal.the-variants.{BadKind, CutRecord, PastLimit, BadAtom, BadOperand, NoOperands, BadRoot, NotRising}
+use Rattle.theory.specs.declared.Refusal.the-variants.{BadKind, CutRecord, PastLimit}
 use Rattle.record.specs.Mark.{markAt, inOrder}
-use Rattle.record.specs.Number.{number, numbers, rising}
+use Rattle.record.specs.Number.{numbers}
 use Rattle.record.specs.Layout.{counted, arity, valueCount, valuesStart, recordEnd, valuesOf}
 use Rattle.record.specs.Passed.{countsAfter, passed}
 use Rattle.record.specs.Record.{unless, isAdmitted, judgedGroup, judgedValues, judgedWhole, judgedMarked, judged}

@@ -10,7 +10,6 @@ use Rattle.theory.specs.declared.Refusal.the-variants.{BadKind}
 use Rattle.record.specs.Record.{judged}
 use Rattle.record.specs.Contents.{Contents, nothing, joined, ofNext}
 use Rattle.record.specs.declared.Cursor.{Cursor}
-use Rattle.record.specs.declared.Step.{Step}
 use Rattle.record.specs.declared.Step.the-variants as step
 use Rattle.record.specs.declared.Summary.{Summary}
 use Rattle.record.specs.declared.Judged.{Judged}

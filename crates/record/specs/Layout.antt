@@ -32,7 +32,7 @@ arity Candidate = 0
 arity Unknown = 0
 
 module _ (file : List ℕ) (at : ℕ) (mark : Mark) where
-  -- how many values the record that begins at `at` has, where they begin, and where it ends
+  -- how many values the record that begins at `at` has, where they begin, and where it ends: past the file if its count is cut
   unfoldable pub valueCount : ℕ
   valueCount = cond (counted mark) (number file (at + 2)) (arity mark)
 

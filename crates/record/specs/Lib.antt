@@ -1,5 +1,6 @@
 pub mod Mark
 pub mod Number
+pub mod Rising
 pub mod Layout
 pub mod Passed
 pub mod Record

@@ -1,9 +1,7 @@
 -- The numbers of a file: four bytes each, low byte first.
 -- Assumes nothing.
 use Prim.Native.Nat.{ℕ, zero, suc, _+_, _*_}
-use mathlib.Core.Bool.{Bool, true, _&&_}
 use mathlib.Core.List.{List, [], _∷_}
-use lib.Dec.{ltb}
 use lib.ListN.{getD}
 
 unfoldable pub number : List ℕ → ℕ → ℕ
@@ -13,12 +11,3 @@ number file at = getD file at 0 + 256 * getD file (at + 1) 0 + 65536 * getD file
 unfoldable pub numbers : List ℕ → ℕ → ℕ → List ℕ
 numbers file at zero = []
 numbers file at (suc n) = number file at ∷ numbers file (at + 4) n
-
--- strictly rising
-unfoldable pub risingFrom : ℕ → List ℕ → Bool
-risingFrom x [] = true
-risingFrom x (y ∷ ys) = ltb x y && risingFrom y ys
-
-unfoldable pub rising : List ℕ → Bool
-rising [] = true
-rising (x ∷ xs) = risingFrom x xs

@@ -12,7 +12,7 @@ use Rattle.theory.specs.declared.Admission.the-variants as admission
 use Rattle.theory.specs.declared.Refusal.{Refusal}
 use Rattle.theory.specs.declared.Refusal.the-variants.{BadKind, CutRecord, PastLimit, BadAtom, BadOperand, NoOperands, BadRoot, NotRising}
 use Rattle.record.specs.Mark.{markAt, inOrder}
-use Rattle.record.specs.Number.{rising}
+use Rattle.record.specs.Rising.{rising}
 use Rattle.record.specs.Layout.{recordEnd, valuesOf}
 use Rattle.record.specs.Passed.{countsAfter, passed}
 use Rattle.record.specs.declared.Cursor.{Cursor}

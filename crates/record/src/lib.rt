@@ -1,13 +1,14 @@
 // The theory file: a cursor by value goes over it record by record.
 ghost use mathlib.Core.Path.{_≡_};
 ghost use mathlib.Core.Bool.{true, false};
-ghost use Prim.Native.Nat.{ℕ, _+_, _*_, _<_, _≤_};
+ghost use Prim.Native.Nat.{_+_, _*_, _<_, _≤_};
 ghost use lib.ListN.{length, getD};
 ghost use lib.Dec.{leb};
 ghost use Rattle.theory.specs.Admission.{allBelow};
 ghost use Rattle.theory.specs.Limits.{Limited};
 ghost use Rattle.record.specs.Mark.{isMark, nodeMarkAt, markAt, inOrder};
-ghost use Rattle.record.specs.Number.{number, numbers, rising};
+ghost use Rattle.record.specs.Number.{number, numbers};
+ghost use Rattle.record.specs.Rising.{rising};
 ghost use Rattle.record.specs.Layout.{counted, arity, valueCount, valuesStart, valuesOf, recordEnd};
 ghost use Rattle.record.specs.Passed.{countsAfter, more, passed, passedOther};
 ghost use Rattle.record.specs.Record.{unless, judgedGroup, judgedValues, judgedWhole, judged};

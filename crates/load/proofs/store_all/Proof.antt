@@ -35,16 +35,32 @@ values-of-requires : tie.Need-values-of-requires Inv-loop μ-loop
 values-of-requires c κs = rw (c .mark-at .ensures) (turn _ _ _ _ _ (c .before .before .before .loop .inv .0) (c .before .if1 .taken) (c .before .before .before .loop .inv .1) .whole)
 
 store-requires : tie.Need-store-requires Inv-loop μ-loop
-store-requires c κs = (stands _ _ _ _ _ _ _ (turn _ _ _ _ _ (c .before .before .before .before .before .before .before .loop .inv .0) (c .before .before .before .before .before .if1 .taken) (c .before .before .before .before .before .before .before .loop .inv .1)) (c .before .before .before .before .mark-at .ensures) (c .before .before .before .values-of .ensures), c .before .before .before .before .before .before .before .loop .inv .0 .limited, rw (c .before .before .before .before .before .before .before .loop .inv .2, c .before .before .before .before .before .before .before .loop .inv .3, c .before .before .before .before .before .before .before .loop .inv .4) (room-here _ _ _ _ _ _ _ (turn _ _ _ _ _ (c .before .before .before .before .before .before .before .loop .inv .0) (c .before .before .before .before .before .if1 .taken) (c .before .before .before .before .before .before .before .loop .inv .1)) (c .before .before .before .before .mark-at .ensures) (c .before .before .before .values-of .ensures)))
+store-requires c κs =
+    let w = c .before .before .before .before .before .before .before .loop in
+    let t = turn _ _ _ _ _ (w .inv .0) (c .before .before .before .before .before .if1 .taken) (w .inv .1) in
+    let m = c .before .before .before .before .mark-at .ensures in
+    let v = c .before .before .before .values-of .ensures in
+    (stands _ _ _ _ _ _ _ t m v, w .inv .0 .limited, rw (w .inv .2, w .inv .3, w .inv .4) (room-here _ _ _ _ _ _ _ t m v))
 
 next-cursor-requires : tie.Need-next-cursor-requires Inv-loop μ-loop
-next-cursor-requires c κs = (c .before .before .before .before .before .before .before .before .before .before .before .before .before .before .loop .inv .0, stands _ _ _ _ _ _ _ (turn _ _ _ _ _ (c .before .before .before .before .before .before .before .before .before .before .before .before .before .before .loop .inv .0) (c .before .before .before .before .before .before .before .before .before .before .before .before .if1 .taken) (c .before .before .before .before .before .before .before .before .before .before .before .before .before .before .loop .inv .1)) (c .before .before .before .before .before .before .before .before .before .before .before .mark-at .ensures) (c .before .before .before .before .before .before .before .before .before .before .values-of .ensures))
+next-cursor-requires c κs =
+    let w = c .before .before .before .before .before .before .before .before .before .before .before .before .before .before .loop in
+    let t = turn _ _ _ _ _ (w .inv .0) (c .before .before .before .before .before .before .before .before .before .before .before .before .if1 .taken) (w .inv .1) in
+    (w .inv .0, stands _ _ _ _ _ _ _ t (c .before .before .before .before .before .before .before .before .before .before .before .mark-at .ensures) (c .before .before .before .before .before .before .before .before .before .before .values-of .ensures))
 
 loop-less : tie.Need-loop-less Inv-loop μ-loop
-loop-less c = rw (c .next-cursor .ensures ∙ next-here _ _ _ _ _ _ _ (turn _ _ _ _ _ (c .before .before .before .before .before .before .before .before .before .before .before .before .before .before .before .loop .inv .0) (c .before .before .before .before .before .before .before .before .before .before .before .before .before .if1 .taken) (c .before .before .before .before .before .before .before .before .before .before .before .before .before .before .before .loop .inv .1)) (c .before .before .before .before .before .before .before .before .before .before .before .before .mark-at .ensures) (c .before .before .before .before .before .before .before .before .before .before .before .values-of .ensures)) (omega (arith, next-within _ _ _ (turn _ _ _ _ _ (c .before .before .before .before .before .before .before .before .before .before .before .before .before .before .before .loop .inv .0) (c .before .before .before .before .before .before .before .before .before .before .before .before .before .if1 .taken) (c .before .before .before .before .before .before .before .before .before .before .before .before .before .before .before .loop .inv .1) .goes) (c .before .before .before .before .before .before .before .before .before .before .before .before .before .before .before .loop .inv .0) .1))
+loop-less c =
+    let w = c .before .before .before .before .before .before .before .before .before .before .before .before .before .before .before .loop in
+    let t = turn _ _ _ _ _ (w .inv .0) (c .before .before .before .before .before .before .before .before .before .before .before .before .before .if1 .taken) (w .inv .1) in
+    let n = c .next-cursor .ensures ∙ next-here _ _ _ _ _ _ _ t (c .before .before .before .before .before .before .before .before .before .before .before .before .mark-at .ensures) (c .before .before .before .before .before .before .before .before .before .before .before .values-of .ensures) in
+    rw n (omega (arith, next-within _ _ _ (t .goes) (w .inv .0) .1))
 
 loop-again : tie.Need-loop-again Inv-loop μ-loop
-loop-again c = rw (c .next-cursor .ensures ∙ next-here _ _ _ _ _ _ _ (turn _ _ _ _ _ (c .before .before .before .before .before .before .before .before .before .before .before .before .before .before .before .loop .inv .0) (c .before .before .before .before .before .before .before .before .before .before .before .before .before .if1 .taken) (c .before .before .before .before .before .before .before .before .before .before .before .before .before .before .before .loop .inv .1)) (c .before .before .before .before .before .before .before .before .before .before .before .before .mark-at .ensures) (c .before .before .before .before .before .before .before .before .before .before .before .values-of .ensures)) (next-within _ _ _ (turn _ _ _ _ _ (c .before .before .before .before .before .before .before .before .before .before .before .before .before .before .before .loop .inv .0) (c .before .before .before .before .before .before .before .before .before .before .before .before .before .if1 .taken) (c .before .before .before .before .before .before .before .before .before .before .before .before .before .before .before .loop .inv .1) .goes) (c .before .before .before .before .before .before .before .before .before .before .before .before .before .before .before .loop .inv .0) .0, turn _ _ _ _ _ (c .before .before .before .before .before .before .before .before .before .before .before .before .before .before .before .loop .inv .0) (c .before .before .before .before .before .before .before .before .before .before .before .before .before .if1 .taken) (c .before .before .before .before .before .before .before .before .before .before .before .before .before .before .before .loop .inv .1) .fits, search needs, search needs, search needs, rw (c .before .before .before .before .before .before .before .store .ensures) (store-go _ _ _ _ (c .before .before .before .before .before .before .before .before .before .before .before .before .before .before .before .loop .inv .5) (c .before .before .before .before .before .before .before .before .before .before .before .before .before .before .before .loop .inv .0) (c .before .before .before .before .before .before .before .before .before .before .before .before .before .if1 .taken) (turn _ _ _ _ _ (c .before .before .before .before .before .before .before .before .before .before .before .before .before .before .before .loop .inv .0) (c .before .before .before .before .before .before .before .before .before .before .before .before .before .if1 .taken) (c .before .before .before .before .before .before .before .before .before .before .before .before .before .before .before .loop .inv .1) .goes)))
+loop-again c =
+    let w = c .before .before .before .before .before .before .before .before .before .before .before .before .before .before .before .loop in
+    let t = turn _ _ _ _ _ (w .inv .0) (c .before .before .before .before .before .before .before .before .before .before .before .before .before .if1 .taken) (w .inv .1) in
+    let n = c .next-cursor .ensures ∙ next-here _ _ _ _ _ _ _ t (c .before .before .before .before .before .before .before .before .before .before .before .before .mark-at .ensures) (c .before .before .before .before .before .before .before .before .before .before .before .values-of .ensures) in
+    rw n (next-within _ _ _ (t .goes) (w .inv .0) .0, t .fits, search needs, search needs, search needs, rw (c .before .before .before .before .before .before .before .store .ensures) (store-go _ _ _ _ (w .inv .5) (w .inv .0) (c .before .before .before .before .before .before .before .before .before .before .before .before .before .if1 .taken) (t .goes)))
 
 same-length : tie.Need-same-length Inv-loop μ-loop
 same-length c = c .before .before .loop .inv .2

@@ -1,6 +1,7 @@
 use Prim.Native.Nat.{_+_, _-_, _*_, _≤_}
 use mathlib.Core.Path.{_≡_}
-use Rattle.record.specs.Number.{number, numbers, risingFrom, rising}
+use Rattle.record.specs.Number.{number, numbers}
+use Rattle.record.specs.Rising.{risingFrom, rising}
 use Rattle.record.proofs.Laws.{rising-stop, rising-go, rising-done, rising-none, rising-first}
 use borrow.Author.Needs.{needs}
 use Rattle.record.proofs.is_rising.Statement.{statement}
