@@ -1,3 +1,9 @@
 pub mod Tabulate
 pub mod SetOf
 pub mod SetOfLaws
+pub mod CountedSet
+pub mod CountedSetLaws
+pub mod Reading
+pub mod Readers
+pub mod Tables
+pub mod Evaluation
