@@ -7,3 +7,9 @@ pub mod Reading
 pub mod Readers
 pub mod Tables
 pub mod Evaluation
+pub mod Verdict
+pub mod Step
+pub mod Walk
+pub mod Check
+pub mod Layout
+pub mod Outcome
