@@ -13,3 +13,5 @@ pub mod Walk
 pub mod Check
 pub mod Layout
 pub mod Outcome
+pub mod Consistent
+pub mod HeldLaws
