@@ -15,3 +15,6 @@ pub mod Layout
 pub mod Outcome
 pub mod Consistent
 pub mod HeldLaws
+pub mod PlaceLaws
+pub mod ReaderLaws
+pub mod StepLaws
