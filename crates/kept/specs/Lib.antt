@@ -18,3 +18,4 @@ pub mod HeldLaws
 pub mod PlaceLaws
 pub mod ReaderLaws
 pub mod StepLaws
+pub mod WalkLaws
