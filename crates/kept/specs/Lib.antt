@@ -19,3 +19,6 @@ pub mod PlaceLaws
 pub mod ReaderLaws
 pub mod StepLaws
 pub mod WalkLaws
+pub mod StartLaws
+pub mod Demand
+pub mod VerdictLaws

@@ -3,13 +3,14 @@
 use Prim.Native.Nat.{ℕ, zero, suc, _<_, _≤_, _+_}
 use native.Mathlib.Omega.{arith}
 use native.Mathlib.Nat.{not-suc-le-zero}
+use native.Mathlib.Numerals.{add-one}
 use mathlib.Core.Path.{_≡_, refl, ap, ap₂, sym, _∙_}
 use mathlib.Core.Logic.{⊎-elim}
 use mathlib.Core.Bool.{Bool, true, false, not, cond, _&&_, _||_, or-false, or-true, and-false, or-assoc}
 use mathlib.Core.List.{List, [], _∷_, map}
 use lib.Dec.{eqb, ltb, leb}
 use lib.ListN.{getD}
-use borrow.Author.Tests.{eqb-true, eqb-false, eq-eqb, ne-eqb, lt-ltb, le-ltb, le-leb, lt-leb}
+use borrow.Author.Tests.{eqb-true, eqb-false, ne-eqb, ltb-true, ltb-false, lt-ltb, le-ltb, le-leb, lt-leb}
 use Rattle.base.specs.Tests.{equal-or, below-or, neither-left, neither-right}
 use Rattle.base.specs.Each.{Each, each-map, map-agree}
 use Rattle.base.specs.Places.{places, places-yes, places-no, count-agree}
@@ -147,10 +148,10 @@ module _ (T : Tables) (good : Consistent T) where
             let x : j ≡ k = eqb-true j k e in
             rw (x, updated-here (waiting k) k false, among-none k k (operandsAt T k) (lower k l) (omega arith), lt-leb (suc k) k (omega arith)) (and-false (flips T I J k))
         go false e true f =
-            let x : j < k = borrow.Author.Tests.ltb-true j k f in
+            let x : j < k = ltb-true j k f in
             rw (updated-there (waiting k) k false j (eqb-false j k e), lt-leb k j x, among-none k j (operandsAt T j) (lower j m) (omega arith), lt-leb (suc k) j (omega arith)) (and-false (flips T I J k))
         go false e false f =
-            let x : k ≤ j = borrow.Author.Tests.ltb-false j k f in
+            let x : k ≤ j = ltb-false j k f in
             rw (updated-there (waiting k) k false j (eqb-false j k e), le-leb k j x, le-leb (suc k) j (omega (arith, eqb-false j k e)), any-next (flips T I J) k (operandsAt T j))
             (or-assoc (touched T I J j) (anyTrue (map (λ o. ltb o k && flips T I J o) (operandsAt T j))) (flips T I J k && among k (operandsAt T j)))
 
@@ -221,7 +222,7 @@ module _ (T : Tables) (good : Consistent T) where
     walk-midway (suc d) k n e l = go (dirty T I J k) refl n l (λ n. walk-midway d (k + 1) n (omega arith))
       where
         next : midway (suc k) ≡ midway (k + 1)
-        next = ap midway (sym (native.Mathlib.Numerals.add-one k))
+        next = ap midway (sym (add-one k))
 
         go : (b : Bool) → dirty T I J k ≡ b → (n : ℕ) → suc d ≤ n
             → ((n : ℕ) → d ≤ n → walk T n (midway (k + 1)) ≡ ended (places (dirty T I J) (k + 1) d) (fresh T J))
