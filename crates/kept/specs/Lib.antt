@@ -22,3 +22,5 @@ pub mod WalkLaws
 pub mod StartLaws
 pub mod Demand
 pub mod VerdictLaws
+pub mod CheckLaws
+pub mod LayoutLaws
