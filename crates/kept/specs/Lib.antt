@@ -24,3 +24,14 @@ pub mod Demand
 pub mod VerdictLaws
 pub mod CheckLaws
 pub mod LayoutLaws
+pub mod Planned
+pub mod PlannedLaws
+pub mod StableLaws
+pub mod Series
+pub mod TestLaws
+pub mod OptionLaws
+pub mod FitsLaws
+pub mod WalkEnds
+pub mod Filling
+pub mod Halves
+pub mod StartChanged

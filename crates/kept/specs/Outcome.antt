@@ -3,7 +3,7 @@
 use Prim.Native.Nat.{ℕ, _+_, _*_}
 use mathlib.Core.Bool.{Bool, true, false, cond, _&&_}
 use mathlib.Core.List.{List, [], _∷_, _++_}
-use lib.Dec.{eqb, ltb, leb}
+use lib.Dec.{eqb, ltb}
 use lib.ListN.{length, take, drop, replicate}
 use Rattle.formula.specs.Satisfaction.{Interpretation}
 use Rattle.theory.specs.Admission.{orElse}
@@ -35,20 +35,31 @@ atomsOf T c a = member 64 (listedWords T c) a
 
 -- ---- the tests before 17
 
--- 9: a buffer, its least and its lent length
-abbrev pub longEnough : ℕ → ℕ → ℕ → Admission
-longEnough number least lent = cond (leb least lent) Admitted (Refused (ShortBuffer number))
+-- a lent buffer: its number, its least and its lent length
+pub record Buffer : Type 0 where
+  pub number : ℕ
+  pub least : ℕ
+  pub lent : ℕ
+
+abbrev pub buffer : ℕ → ℕ → ℕ → Buffer
+buffer number least lent = record { number = number; least = least; lent = lent }
 
 -- `size` is the length of the lent words of the kept evaluation
-unfoldable pub lentLengths : Tables → Candidate → ℕ → Admission
-lentLengths T c size =
-    orElse (longEnough 0 (words64 (atomCount T)) (length (c .words)))
-    (orElse (longEnough 1 (3 * nodeCount T) (length (T .nodes)))
-    (orElse (longEnough 2 (T .counts .operands) (length (T .operands)))
-    (orElse (longEnough 3 (rootCount T) (length (T .roots)))
-    (orElse (longEnough 4 (4 * rootCount T) (length (T .producers)))
-    (orElse (longEnough 6 (readerWords (T .counts)) (length (T .readers)))
-    (longEnough 7 (listed T) size))))))
+abbrev pub buffers : Tables → Candidate → ℕ → List Buffer
+buffers T c size =
+    buffer 0 (words64 (atomCount T)) (length (c .words))
+    ∷ buffer 1 (3 * nodeCount T) (length (T .nodes))
+    ∷ buffer 2 (T .counts .operands) (length (T .operands))
+    ∷ buffer 3 (rootCount T) (length (T .roots))
+    ∷ buffer 4 (4 * rootCount T) (length (T .producers))
+    ∷ buffer 6 (readerWords (T .counts)) (length (T .readers))
+    ∷ buffer 7 (listed T) size
+    ∷ []
+
+-- 9: the first that is too short
+unfoldable pub firstShort : List Buffer → Admission
+firstShort [] = Admitted
+firstShort (b ∷ bs) = cond (ltb (b .lent) (b .least)) (Refused (ShortBuffer (b .number))) (firstShort bs)
 
 -- 15
 unfoldable pub stamps : Tables → Candidate → Admission
@@ -61,7 +72,7 @@ strayBit T c =
 
 -- 3, 9, 15, 16
 unfoldable pub tests : Tables → Candidate → ℕ → Admission
-tests T c size = orElse (limitsOf (T .counts)) (orElse (lentLengths T c size) (orElse (stamps T c) (strayBit T c)))
+tests T c size = orElse (limitsOf (T .counts)) (orElse (firstShort (buffers T c size)) (orElse (stamps T c) (strayBit T c)))
 
 -- ---- the outcome
 
