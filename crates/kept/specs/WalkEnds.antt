@@ -142,7 +142,7 @@ module _ (T : Tables) where
         above = ⊎-elim (λ l. absurd (true≢false (sym there ∙ c .below m l))) (λ l. l) (below-or m k);
         within = place .1;
         clear = settled-cases T m m (seen T e m) (withWorklist e (t .left)) d (t .rest) (λ y. Clear y (suc m)) off
-        (λ xs y. readers-clear m (seen T e m) (withTruths (withWorklist e (t .left)) (set (e .truths) m (truthWord (seen T e m)))) d xs y told) .1;
+            (λ xs y. readers-clear m (seen T e m) (withTruths (withWorklist e (t .left)) (set (e .truths) m (truthWord (seen T e m)))) d xs y told) .1;
       }
     where
       t : Taken T e m d
