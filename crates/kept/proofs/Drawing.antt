@@ -1,26 +1,23 @@
 -- Document 01's drawing: the lines of its checks C1 to C4 by the definitions, refusals among them; its tables are planned, so that demand 3 speaks of them.
 -- Assumes nothing.
-use Prim.Native.Nat.{ℕ, zero, suc, max, _<_, _≤_, _+_, _*_, _^_, _/_}
+use Prim.Native.Nat.{ℕ, zero, suc, max, _<_, _+_, _*_, _^_, _/_}
 use native.Mathlib.Omega.{arith}
-use mathlib.Core.Path.{_≡_, refl, ap}
-use mathlib.Core.Bool.{Bool, true, false}
+use mathlib.Core.Path.{_≡_, refl}
 use mathlib.Core.List.{List, [], _∷_, _++_}
-use mathlib.Core.Option.{Option, some, none}
-use lib.ListN.{length, getD, replicate}
+use mathlib.Core.Option.{some}
+use lib.ListN.{getD, replicate}
 use Rattle.base.specs.Places.{places, count, lowest}
 use Rattle.base.specs.Rising.{rising, extended}
-use Rattle.formula.specs.Class.{class, classes}
+use Rattle.formula.specs.Class.{class}
 use Rattle.formula.specs.Formula.{ofList}
-use Rattle.formula.specs.Rank.{highest, highests}
+use Rattle.formula.specs.Rank.{highest}
 use Rattle.theory.specs.Admission.{allBelow, firstRefusal, spanStart}
-use Rattle.theory.specs.Limits.{limitsOf, Limited}
+use Rattle.theory.specs.Limits.{limitsOf}
 use Rattle.theory.specs.Node.{nodeAt, span, operandsOf}
 use Rattle.theory.specs.NodeClass.{joined, nodeClass, nodeClasses}
 use Rattle.theory.specs.NodeFormula.{nodeFormula, nodeFormulas, formula}
 use Rattle.theory.specs.NodeTruth.{allTrue, anyTrue, nodeTruth, nodeTruths}
-use Rattle.theory.specs.WellFormed.{NodeFormed, SpanFormed, NodeTables, RootTable}
-use Rattle.theory.specs.declared.Counts.{Counts}
-use Rattle.theory.specs.declared.Refusal.{Refusal}
+use Rattle.theory.specs.WellFormed.{NodeFormed}
 use Rattle.theory.specs.declared.Refusal.the-variants.{ForeignStamp, StrayBit, ShortBuffer, BadEntry}
 use Rattle.compile.specs.ClassWord.{classWords}
 use Rattle.compile.specs.Head as heads
@@ -33,13 +30,12 @@ use Rattle.words.specs.Sets.{member, inserted, removed}
 use Rattle.kept.specs.Tabulate.{tabulate}
 use Rattle.kept.specs.SetOf.{setOf, allInserted}
 use Rattle.kept.specs.CountedSet.{countedSet, moved, withBit, withMember, lookup}
-use Rattle.kept.specs.Reading as reading
 use Rattle.kept.specs.Reading.{readingOf, packed}
 use Rattle.kept.specs.Readers as listing
 use Rattle.kept.specs.Readers.{occurrences, readingNode, readersOf, atomNodesOf}
-use Rattle.kept.specs.Tables.{Tables, nodeCount, operandsAt, soundNode, sound, between, listAt}
+use Rattle.kept.specs.Tables.{Tables, operandsAt, soundNode, sound, between, listAt}
 use Rattle.kept.specs.Evaluation.{held, truth, bodyTrue, supports, support, falseRoot, summary, fresh}
-use Rattle.kept.specs.Verdict.{Verdict, notModel, residual, stable, missingAtom, verdict, judged, verdictOf}
+use Rattle.kept.specs.Verdict.{notModel, residual, stable, missingAtom, verdict, judged, verdictOf}
 use Rattle.kept.specs.Step.{entered, supportMoved, rootTurned, readerUpdated, readersUpdated, settled, seen, stepAt, step}
 use Rattle.kept.specs.Walk.{allEntered, atomTurned, atomUpdated, walkStart, walk, keptWalk}
 use Rattle.kept.specs.Check.{nodeEntry, producerEntry, rootEntry, tablesAdmission, freshResult, keptResult, changes, isKept, result}

@@ -1,3 +1,4 @@
 pub mod Walk
 pub mod Series
+pub mod AnyWords
 pub mod Drawing

@@ -1,16 +1,14 @@
 -- Demand 3, whole: every series of checks by one plan, from zeroed words.
 -- Assumes nothing.
-use Prim.Native.Nat.{ℕ, zero, suc, _<_, _≤_, _+_}
+use Prim.Native.Nat.{ℕ, _+_}
 use native.Mathlib.Omega.{arith}
 use mathlib.Core.Path.{_≡_, refl, ap, ap₂, sym, _∙_}
 use mathlib.Core.Logic.{_↔_}
-use mathlib.Core.Bool.{Bool, true, false, cond}
-use mathlib.Core.List.{List, [], _∷_, _++_}
+use mathlib.Core.Bool.{cond}
+use mathlib.Core.List.{List, [], _∷_}
 use mathlib.Core.Option.{Option, some, none}
-use lib.Dec.{leb}
 use lib.ListN.{length, replicate, length-replicate}
 use borrow.Author.Tests.{le-leb, lt-leb}
-use Rattle.base.specs.Places.{places, count}
 use Rattle.formula.specs.Satisfaction.{Interpretation}
 use Rattle.formula.specs.Passes.{Within}
 use Rattle.formula.specs.Root.{theory}
@@ -26,21 +24,21 @@ use Rattle.compile.specs.Roots.{rootsOf}
 use Rattle.kept.specs.Tables.{Tables, atomCount, nodeCount}
 use Rattle.kept.specs.Evaluation.{Evaluation, zeroed, fresh}
 use Rattle.kept.specs.Verdict.{Verdict, stable, verdict}
-use Rattle.kept.specs.Walk.{dirty, keptWalk}
+use Rattle.kept.specs.Walk.{keptWalk}
 use Rattle.kept.specs.Check as check
 use Rattle.kept.specs.Check.{most, result}
 use Rattle.kept.specs.CheckLaws.{changedAtoms, goneOver, result-zeroed, result-fresh}
 use Rattle.kept.specs.Consistent.{Consistent}
 use Rattle.kept.specs.Demand.{AllTrue, AllProduced, Right}
 use Rattle.kept.specs.VerdictLaws.{verdict-right}
-use Rattle.kept.specs.Layout.{image, ofWords, used, listed}
+use Rattle.kept.specs.Layout.{image, ofWords, used}
 use Rattle.kept.specs.LayoutLaws.{Fits, fits-fresh, fits-zeroed, of-image, written-image, length-image, behind, zero-image}
-use Rattle.kept.specs.Outcome.{Candidate, atomsOf, tests, Answer, accepted, refused, Outcome, concluded, outcomeAt, outcome}
+use Rattle.kept.specs.Outcome.{Candidate, atomsOf, tests, accepted, refused, Outcome, concluded, outcomeAt, outcome}
 use Rattle.kept.specs.TestLaws.{tests-not-17, atoms-within}
 use Rattle.kept.specs.Planned.{PlannedTables}
 use Rattle.kept.specs.PlannedLaws.{consistent}
 use Rattle.kept.specs.StableLaws.{theory-is, to-supported, from-supported}
-use Rattle.kept.specs.Series.{isAccepted, zeroedWords, answerTo, wordsAfter, seriesWords, lastAccepted, anew, GoneOver, SeriesCheck, Demand3}
+use Rattle.kept.specs.Series.{isAccepted, zeroedWords, answerTo, seriesWords, lastAccepted, anew, GoneOver, SeriesCheck, Demand3}
 use Rattle.kept.proofs.Walk.{walk}
 
 module _ (T : Tables) (plan : PlannedTables T) where

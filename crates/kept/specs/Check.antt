@@ -1,8 +1,7 @@
 -- A check on an evaluation as a value: kept if it holds a check of this stamp and few atoms changed, else fresh.
 -- Assumes nothing.
 use Prim.Native.Nat.{ℕ, max, _*_, _/_}
-use mathlib.Core.Bool.{Bool, true, false, cond, _&&_}
-use mathlib.Core.List.{List}
+use mathlib.Core.Bool.{Bool, cond, _&&_}
 use mathlib.Core.Option.{Option, some, none}
 use lib.Dec.{eqb, ltb, leb}
 use lib.ListN.{length}

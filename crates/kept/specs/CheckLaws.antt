@@ -1,20 +1,19 @@
 -- A check by consistent tables, on a zeroed evaluation and on that of another candidate.
 -- Assumes nothing.
-use Prim.Native.Nat.{ℕ, zero, suc, _<_, _≤_, _+_, _-_, _*_, _/_}
+use Prim.Native.Nat.{ℕ, _≤_, _+_, _-_, _*_}
 use native.Mathlib.Omega.{arith}
-use native.Mathlib.Nat.{zero-add, add-zero}
+use native.Mathlib.Nat.{add-zero}
 use mathlib.Core.Path.{_≡_, refl, ap, ap₂, sym, _∙_}
-use mathlib.Core.Bool.{Bool, true, false, cond, _&&_}
-use mathlib.Core.List.{List}
-use mathlib.Core.Option.{Option, some, none}
-use lib.Dec.{eqb, ltb, leb}
+use mathlib.Core.Bool.{Bool, true, false, cond}
+use mathlib.Core.Option.{none}
+use lib.Dec.{eqb, leb}
 use lib.ListN.{length}
 use borrow.Author.Tests.{eq-eqb, lt-ltb, le-ltb, le-leb}
 use Rattle.base.specs.Tests.{both}
 use Rattle.base.specs.Places.{places, count, count-split, count-agree, count-none}
 use Rattle.formula.specs.Satisfaction.{Interpretation}
 use Rattle.formula.specs.Passes.{Within}
-use Rattle.theory.specs.Admission.{orElse, firstRefusal}
+use Rattle.theory.specs.Admission.{firstRefusal}
 use Rattle.theory.specs.Refusals.{all-admitted}
 use Rattle.theory.specs.declared.Admission.the-variants.{Admitted}
 use Rattle.words.specs.Changed.{unlike}
@@ -22,11 +21,11 @@ use Rattle.words.specs.Sets.{member}
 use Rattle.kept.specs.SetOf.{words32, setOf}
 use Rattle.kept.specs.SetOfLaws.{member-below, member-above, length-setOf}
 use Rattle.kept.specs.CountedSetLaws.{unlike-same}
-use Rattle.kept.specs.Tables.{Tables, atomCount, nodeCount, rootCount, rootAt, headAt, bodyAt, sound}
-use Rattle.kept.specs.Evaluation.{Evaluation, present, zeroed, held, summary, fresh}
+use Rattle.kept.specs.Tables.{Tables, atomCount, nodeCount, rootCount, rootAt, headAt, bodyAt}
+use Rattle.kept.specs.Evaluation.{zeroed, held, summary, fresh}
 use Rattle.kept.specs.Verdict.{verdict}
 use Rattle.kept.specs.Walk.{dirty, keptWalk}
-use Rattle.kept.specs.Check.{Result, accepted, nodeEntry, producerEntry, rootEntry, tablesAdmission, freshResult, concluded, keptResult, changes, most, isKept, result}
+use Rattle.kept.specs.Check.{accepted, nodeEntry, producerEntry, rootEntry, tablesAdmission, freshResult, keptResult, changes, most, isKept, result}
 use Rattle.kept.specs.Consistent.{Consistent}
 use Rattle.kept.specs.StartLaws.{kept-fresh}
 use Rattle.kept.specs.VerdictLaws.{verdict-fresh}

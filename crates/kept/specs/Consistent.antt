@@ -1,13 +1,11 @@
 -- Tables as a plan leaves them: every entry within its table, and the reader lists complete.
 -- Assumes nothing.
 use Prim.Native.Nat.{ℕ, _+_, _<_, _≤_}
-use native.Mathlib.Omega.{arith}
-use mathlib.Core.Path.{_≡_, refl}
-use mathlib.Core.Bool.{true, _&&_}
+use mathlib.Core.Path.{_≡_}
+use mathlib.Core.Bool.{true}
 use mathlib.Core.List.{List}
 use mathlib.Core.Option.{some}
 use lib.Dec.{ltb, leb}
-use lib.ListN.{getD}
 use borrow.Author.Tests.{ltb-true}
 use Rattle.base.specs.Tests.{both-left, both-right}
 use Rattle.base.specs.Each.{Each}

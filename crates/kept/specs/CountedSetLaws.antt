@@ -1,25 +1,18 @@
 -- Laws of a set with its count: of one given by a test, and of any.
 -- Assumes nothing.
-use Prim.Native.Nat.{ℕ, zero, suc, _+_, _-_, _<_, _≤_}
+use Prim.Native.Nat.{ℕ, suc, _+_, _-_, _<_}
 use native.Mathlib.Nat.{zero-add}
 use native.Mathlib.Omega.{arith}
-use mathlib.Core.Path.{_≡_, refl, ap, ap₂, sym, _∙_, fun-ext}
-use mathlib.Core.Logic.{⊎-elim}
+use mathlib.Core.Path.{_≡_, refl, ap, sym, _∙_, fun-ext}
 use mathlib.Core.Bool.{Bool, true, false, not, cond, true≢false}
-use mathlib.Core.List.{List, [], _∷_}
-use mathlib.Core.Option.{Option, some, none}
-use lib.Dec.{eqb, ltb}
-use lib.ListN.{length}
-use borrow.Author.Tests.{eqb-true, eqb-false, eq-eqb, ne-eqb, lt-ltb}
-use Rattle.base.specs.Tests.{equal-or}
-use Rattle.base.specs.Places.{places, places-yes, places-no, count, count-split, count-agree, count-none, count-most}
+use mathlib.Core.Option.{some}
+use borrow.Author.Tests.{ne-eqb, lt-ltb}
+use Rattle.base.specs.Places.{places-yes, places-no, count, count-split, count-agree, count-none, count-most}
 use Rattle.words.specs.Changed.{unlike}
-use Rattle.words.specs.Sets.{member, inserted, removed}
-use Rattle.words.specs.Next.{next}
 use Rattle.kept.specs.Tabulate.{updated, updated-here, updated-there, updated-same}
 use Rattle.kept.specs.SetOf.{setOf}
 use Rattle.kept.specs.SetOfLaws.{member-below, setOf-agree, setOf-inserted, setOf-removed, next-found}
-use Rattle.kept.specs.CountedSet.{andThen, CountedSet, countedSet, moved, withBit, withMember, Lookup, empty, astray, at, lookup}
+use Rattle.kept.specs.CountedSet.{andThen, countedSet, moved, withBit, withMember, empty, at, lookup}
 
 -- ---- what differs
 

@@ -1,21 +1,19 @@
 -- What the loops of a fresh check keep: a part of the words filled from its front, a set and its count, support producer by producer.
 -- Assumes nothing.
-use Prim.Native.Nat.{ℕ, zero, suc, _<_, _≤_, _+_}
+use Prim.Native.Nat.{ℕ, zero, suc, _<_}
 use native.Mathlib.Omega.{arith}
-use mathlib.Core.Path.{_≡_, refl, ap, ap₂, sym, _∙_}
-use mathlib.Core.Logic.{⊎-elim}
+use mathlib.Core.Path.{_≡_, refl, ap, sym, _∙_}
 use mathlib.Core.Bool.{Bool, true, false, _&&_, and-false}
 use mathlib.Core.List.{List, [], _∷_, _++_, append-nil, append-assoc}
 use mathlib.Core.Option.{some}
 use lib.Dec.{eqb, ltb}
-use lib.ListN.{length, getD, set, drop, drop-of-length-le, replicate, length-append}
+use lib.ListN.{length, getD, set, drop, drop-of-length-le, length-append}
 use lib.Seq.{drop-cons, set-at}
 use borrow.Author.Tests.{eq-eqb, ne-eqb, lt-ltb, le-ltb}
-use Rattle.base.specs.Tests.{equal-or}
 use Rattle.base.specs.Places.{places, places-none, count, count-none}
 use Rattle.kept.specs.PlaceLaws.{last-yes, last-no}
-use Rattle.kept.specs.Tabulate.{tabulate, updated, updated-here, updated-there, updated-is, length-tabulate, tabulate-agree, tabulate-set}
-use Rattle.kept.specs.SetOf.{words32, setOf, allInserted}
+use Rattle.kept.specs.Tabulate.{tabulate, updated, updated-is, length-tabulate, tabulate-agree, tabulate-set}
+use Rattle.kept.specs.SetOf.{setOf, allInserted}
 use Rattle.kept.specs.SetOfLaws.{ltb-suc}
 use Rattle.kept.specs.CountedSet.{countedSet, withMember}
 use Rattle.kept.specs.CountedSetLaws.{counted-agree, member-set}

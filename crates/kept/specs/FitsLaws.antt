@@ -1,6 +1,6 @@
 -- On any evaluation, the parts of a step and of the walk's start keep the parts' lengths.
 -- Assumes nothing.
-use Prim.Native.Nat.{ℕ, zero, suc, _<_, _≤_, _+_}
+use Prim.Native.Nat.{ℕ, zero, suc}
 use native.Mathlib.Omega.{arith}
 use mathlib.Core.Path.{_≡_, refl, ap, sym, _∙_}
 use mathlib.Core.Bool.{Bool, true, false, not, cond, _&&_}
@@ -17,7 +17,7 @@ use Rattle.kept.specs.CountedSet.{andThen, CountedSet, moved, withBit, w
 use Rattle.kept.specs.Reading.{Reading, Node, Producer, Root, Unknown, readingOf}
 use Rattle.kept.specs.Tables.{Tables, atomCount, nodeCount, rootCount, headAt, sound, readersAt, atomNodesAt}
 use Rattle.kept.specs.Evaluation.{Evaluation, truthAt, present, truthWord}
-use Rattle.kept.specs.Step.{withTruths, withWorklist, withSupport, withCandidate, withFalseRoots, entered, supportMoved, rootTurned, readerUpdated, readersUpdated, Stepped, idle, took, fault, tookAt, settled, settledFrom, seen, stepAt, step}
+use Rattle.kept.specs.Step.{withTruths, withWorklist, withSupport, withCandidate, withFalseRoots, entered, supportMoved, rootTurned, readerUpdated, readersUpdated, took, fault, tookAt, settled, settledFrom, seen, stepAt, step}
 use Rattle.kept.specs.Walk.{allEntered, atomTurned, atomUpdated, walkStart}
 use Rattle.kept.specs.LayoutLaws.{Fits}
 

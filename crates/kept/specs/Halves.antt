@@ -6,7 +6,7 @@ use native.Mathlib.Nat.{mod-lt, zero-add}
 use mathlib.Core.Path.{_≡_, refl, ap, ap₂, sym, _∙_}
 use mathlib.Core.Logic.{⊎-elim}
 use mathlib.Core.Bool.{Bool, true, false, _&&_}
-use mathlib.Core.List.{List, [], _∷_, map}
+use mathlib.Core.List.{List}
 use lib.Arith.{digits-div, digits-mod}
 use lib.Bits.{bitXor}
 use lib.Count.{ones}

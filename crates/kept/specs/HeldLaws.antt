@@ -1,21 +1,18 @@
 -- What each part of a step and of the walk's start makes of a held evaluation.
 -- Assumes nothing.
-use Prim.Native.Nat.{ℕ, zero, suc, _<_, _≤_, _+_}
-use native.Mathlib.Omega.{arith}
+use Prim.Native.Nat.{ℕ, _<_}
 use mathlib.Core.Path.{_≡_, refl, ap, ap₂, sym, _∙_}
-use mathlib.Core.Logic.{⊎-elim}
-use mathlib.Core.Bool.{Bool, true, false, not, cond, _&&_, _||_}
+use mathlib.Core.Bool.{Bool, true, false, not, _&&_}
 use mathlib.Core.List.{List, [], _∷_, _++_}
 use mathlib.Core.Option.{Option, some, none}
-use lib.Dec.{eqb, ltb}
+use lib.Dec.{eqb}
 use lib.ListN.{getD, set}
 use borrow.Author.Tests.{lt-ltb}
-use Rattle.kept.specs.Tabulate.{tabulate, updated, updated-here, updated-there, updated-is, tabulate-at, tabulate-agree, tabulate-set}
-use Rattle.kept.specs.SetOf.{setOf}
+use Rattle.kept.specs.Tabulate.{updated, updated-here, updated-there, updated-is, tabulate-at, tabulate-agree, tabulate-set}
 use Rattle.kept.specs.SetOfLaws.{member-below, setOf-agree}
 use Rattle.kept.specs.CountedSet.{andThen, withBit, withMember, moved}
 use Rattle.kept.specs.CountedSetLaws.{counted-agree, bit-set, member-set}
-use Rattle.kept.specs.Reading.{Reading, Node, Producer, Root, Unknown, readingOf}
+use Rattle.kept.specs.Reading.{Node, Producer, Root, readingOf}
 use Rattle.kept.specs.Tables.{Tables, atomCount, nodeCount, rootCount, headAt}
 use Rattle.kept.specs.Evaluation.{Evaluation, truthAt, present, truthWord, held}
 use Rattle.kept.specs.Step.{withTruths, withWorklist, withSupport, withCandidate, withFalseRoots, entered, supportMoved, rootTurned, readerUpdated, readersUpdated}

@@ -1,10 +1,9 @@
 -- Where each part of a kept evaluation stands in the lent words.
 -- Assumes nothing.
-use Prim.Native.Nat.{ℕ, zero, suc, _+_, _*_}
+use Prim.Native.Nat.{ℕ, _+_, _*_}
 use mathlib.Core.List.{List, [], _∷_, _++_}
-use lib.ListN.{length, getD, take, drop}
+use lib.ListN.{getD, take, drop}
 use Rattle.kept.specs.SetOf.{words32}
-use Rattle.kept.specs.CountedSet.{CountedSet}
 use Rattle.kept.specs.Tables.{Tables, atomCount, nodeCount, rootCount}
 use Rattle.kept.specs.Evaluation.{Evaluation}
 

@@ -1,22 +1,22 @@
 -- What a load or a store at a place of the lent words is to the evaluation that they hold; words and evaluation as each other's image.
 -- Assumes nothing.
-use Prim.Native.Nat.{ℕ, zero, suc, _<_, _≤_, _+_, _-_, _*_}
+use Prim.Native.Nat.{ℕ, zero, suc, _<_, _≤_, _+_, _-_}
 use native.Mathlib.Omega.{arith}
 use native.Mathlib.Nat.{suc-add, zero-add, add-assoc}
 use mathlib.Core.Path.{_≡_, refl, ap, ap₂, sym, _∙_}
-use mathlib.Core.Bool.{Bool, true, false}
+use mathlib.Core.Bool.{false}
 use mathlib.Core.List.{List, [], _∷_, _++_, append-nil, append-assoc}
-use lib.ListN.{length, getD, set, take, drop, replicate, take-append-drop, length-take, length-drop, length-append, length-replicate, replicate-append-replicate, List·getD-append}
-use lib.Seq.{set-append-left, getD-append-add, take-at, drop-at, drop-append-seam, take-append-add, drop-append-add, drop-drop, length-take-le}
+use lib.ListN.{length, getD, set, take, drop, replicate, take-append-drop, length-drop, length-append, length-replicate, replicate-append-replicate, List·getD-append}
+use lib.Seq.{set-append-left, getD-append-add, take-at, drop-at, drop-append-seam, take-append-seam, take-append-add, drop-append-add, drop-drop, length-take-le}
 use Rattle.formula.specs.Satisfaction.{Interpretation}
-use Rattle.kept.specs.Tabulate.{tabulate, length-tabulate}
-use Rattle.kept.specs.SetOf.{words32, setOf}
+use Rattle.kept.specs.Tabulate.{length-tabulate}
+use Rattle.kept.specs.SetOf.{words32}
 use Rattle.kept.specs.SetOfLaws.{length-setOf}
 use Rattle.kept.specs.CountedSet.{CountedSet, countedSet}
 use Rattle.kept.specs.Tables.{Tables, atomCount, nodeCount, rootCount}
-use Rattle.kept.specs.Evaluation.{Evaluation, truthWord, zeroed, held, truth, support, falseRoot, summary, fresh}
+use Rattle.kept.specs.Evaluation.{Evaluation, zeroed, held, truth, support, falseRoot, summary, fresh}
 use Rattle.kept.specs.Step.{withTruths, withWorklist, withSupport, withCandidate, withFalseRoots}
-use Rattle.kept.specs.Layout.{flat, cut, lengths, header, parts, image, section, ofWords, written, truthsStart, worklistStart, supportStart, candidateStart, missingStart, falseRootsStart, used, listed}
+use Rattle.kept.specs.Layout.{flat, cut, lengths, parts, image, section, ofWords, written, truthsStart, worklistStart, supportStart, candidateStart, missingStart, falseRootsStart, used, listed}
 
 -- ---- parts laid end to end
 
@@ -55,6 +55,13 @@ flat-part (x ∷ xs) zero y l = rw (zero-add (length x), drop-append-seam x (fla
 flat-part (x ∷ xs) (suc k) y l =
     rw (take-append-add x (flat xs) (start xs k), add-assoc (length x) (start xs k) (length (getD xs k [])), drop-append-add x (flat xs) (start xs k + length (getD xs k [])))
     (append-assoc x (take (start xs k) (flat xs)) (y ++ drop (start xs k + length (getD xs k [])) (flat xs)) ∙ ap (λ l. x ++ l) (flat-part xs k y (omega arith)))
+
+-- a part as it stands there
+pub flat-read : (xs : List (List ℕ)) (k : ℕ) → take (length (getD xs k [])) (drop (start xs k) (flat xs)) ≡ getD xs k []
+unfolding flat start
+flat-read [] k = refl
+flat-read (x ∷ xs) zero = take-append-seam x (flat xs)
+flat-read (x ∷ xs) (suc k) = rw (drop-append-add x (flat xs) (start xs k)) (flat-read xs k)
 
 pub flat-cut : (ns ws : List ℕ) → flat (cut ns ws) ≡ ws
 unfolding flat cut
@@ -97,6 +104,11 @@ withMembers s ws = record { members = ws; size = s .size }
 
 abbrev pub withSize : CountedSet → ℕ → CountedSet
 withSize s n = record { members = s .members; size = n }
+
+-- the rest of any words
+pub section-rest : (T : Tables) (ws : List ℕ) → section T ws 8 ≡ drop (used T) ws
+unfolding cut
+section-rest T ws = simp drop-drop
 
 module _ (T : Tables) (e : Evaluation) (fits : Fits T e) (unused rest : List ℕ) (eleven : length unused ≡ 11) where
   abbrev ps : List (List ℕ)
@@ -195,6 +207,48 @@ module _ (T : Tables) (e : Evaluation) (fits : Fits T e) (unused rest : List ℕ
   unfolding image
   load-falseRoots i l = ap (λ m. getD (flat ps) m 0) (at-falseRoots i) ∙ flat-get ps 7 i (omega (arith, fits .falseRoots))
 
+  -- ---- a set lent as a slice of its own, from a up to b, and given back as y
+
+  read-part : (k a b : ℕ) → a + 0 ≡ start ps k + 0 → b - a ≡ length (getD ps k []) → take (b - a) (drop a (image e unused rest)) ≡ getD ps k []
+  unfolding image
+  read-part k a b p q = let i : a ≡ start ps k = omega arith in rw (q, i) (flat-read ps k)
+
+  lend-part : (k a b : ℕ) (y : List ℕ) → k < 9 → a + 0 ≡ start ps k + 0 → b ≡ a + length (getD ps k []) → take a (image e unused rest) ++ (y ++ drop b (image e unused rest)) ≡ flat (set ps k y)
+  unfolding image
+  lend-part k a b y l p q = let i : a ≡ start ps k = omega arith in rw (q, i) (flat-part ps k y l)
+
+  pub read-worklist : take (supportStart T - worklistStart T) (drop (worklistStart T) (image e unused rest)) ≡ e .worklist .members
+  read-worklist = read-part 3 (worklistStart T) (supportStart T) (at-worklist 0) (omega (arith, fits .worklist))
+
+  pub read-candidate : take (missingStart T - candidateStart T) (drop (candidateStart T) (image e unused rest)) ≡ e .candidate
+  read-candidate = read-part 5 (candidateStart T) (missingStart T) (at-candidate 0) (omega (arith, fits .candidate))
+
+  pub read-missing : take (falseRootsStart T - missingStart T) (drop (missingStart T) (image e unused rest)) ≡ e .missing .members
+  read-missing = read-part 6 (missingStart T) (falseRootsStart T) (at-missing 0) (omega (arith, fits .missing))
+
+  pub read-falseRoots : take (used T - falseRootsStart T) (drop (falseRootsStart T) (image e unused rest)) ≡ e .falseRoots .members
+  read-falseRoots = read-part 7 (falseRootsStart T) (used T) (at-falseRoots 0) (omega (arith, fits .falseRoots))
+
+  pub lend-worklist : (y : List ℕ)
+      → take (worklistStart T) (image e unused rest) ++ (y ++ drop (supportStart T) (image e unused rest)) ≡ image (withWorklist e (withMembers (e .worklist) y)) unused rest
+  unfolding image
+  lend-worklist y = lend-part 3 (worklistStart T) (supportStart T) y (omega arith) (at-worklist 0) (omega (arith, fits .worklist))
+
+  pub lend-candidate : (y : List ℕ)
+      → take (candidateStart T) (image e unused rest) ++ (y ++ drop (missingStart T) (image e unused rest)) ≡ image (withCandidate e y (e .missing)) unused rest
+  unfolding image
+  lend-candidate y = lend-part 5 (candidateStart T) (missingStart T) y (omega arith) (at-candidate 0) (omega (arith, fits .candidate))
+
+  pub lend-missing : (y : List ℕ)
+      → take (missingStart T) (image e unused rest) ++ (y ++ drop (falseRootsStart T) (image e unused rest)) ≡ image (withSupport e (e .support) (withMembers (e .missing) y)) unused rest
+  unfolding image
+  lend-missing y = lend-part 6 (missingStart T) (falseRootsStart T) y (omega arith) (at-missing 0) (omega (arith, fits .missing))
+
+  pub lend-falseRoots : (y : List ℕ)
+      → take (falseRootsStart T) (image e unused rest) ++ (y ++ drop (used T) (image e unused rest)) ≡ image (withFalseRoots e (withMembers (e .falseRoots) y)) unused rest
+  unfolding image
+  lend-falseRoots y = lend-part 7 (falseRootsStart T) (used T) y (omega arith) (at-falseRoots 0) (omega (arith, fits .falseRoots))
+
   -- ---- the evaluation of an image
 
   cut-image : cut (lengths T) (image e unused rest) ≡ ps
@@ -222,6 +276,10 @@ module _ (T : Tables) (e : Evaluation) (fits : Fits T e) (unused rest : List ℕ
   pub written-image : (d : Evaluation) → written T (image e unused rest) d ≡ image d unused rest
   unfolding written
   written-image d = ap₂ (image d) (ap (λ c. getD c 1 []) cut-image) (ap (λ c. getD c 8 []) cut-image)
+
+  -- what is behind the used words
+  pub behind-image : drop (used T) (image e unused rest) ≡ rest
+  behind-image = sym (section-rest T (image e unused rest)) ∙ ap (λ c. getD c 8 []) cut-image
 
   pub length-image : length (image e unused rest) ≡ used T + length rest
   unfolding image flat

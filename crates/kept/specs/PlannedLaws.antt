@@ -2,10 +2,9 @@
 -- Assumes nothing.
 use Prim.Native.Nat.{ℕ, zero, suc, _+_, _*_, _<_, _≤_}
 use native.Mathlib.Omega.{arith}
-use mathlib.Core.Path.{_≡_, refl, ap, ap₂, sym, _∙_}
-use mathlib.Core.Bool.{Bool, true, false, _&&_}
+use mathlib.Core.Path.{_≡_, refl, ap, sym, _∙_}
+use mathlib.Core.Bool.{true}
 use mathlib.Core.List.{List, [], _∷_, _++_}
-use lib.Dec.{ltb, leb}
 use lib.ListN.{length, getD, take, length-append, length-take}
 use lib.Seq.{getD-take}
 use borrow.Author.Tests.{lt-ltb, le-leb}
@@ -27,7 +26,7 @@ use Rattle.compile.specs.declared.Producer.{Producer}
 use Rattle.compile.specs.declared.Produced.{Produced}
 use Rattle.compile.specs.declared.Produced.the-variants.{Nothing, Made, Refused}
 use Rattle.compile.proofs.RootFormula.{producer-bounded}
-use Rattle.kept.specs.Tables.{Tables, atomCount, nodeCount, rootCount, rootAt, headAt, bodyAt, soundNode, sound}
+use Rattle.kept.specs.Tables.{Tables, nodeCount, rootCount, rootAt, headAt, bodyAt, soundNode, sound}
 use Rattle.kept.specs.Consistent.{Consistent}
 use Rattle.kept.specs.Planned.{classesIn, producersIn, PlannedTables}
 

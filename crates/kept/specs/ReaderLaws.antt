@@ -1,16 +1,16 @@
 -- What all the readers of a node make of a held evaluation.
 -- Assumes nothing.
-use Prim.Native.Nat.{ℕ, zero, suc, _<_, _≤_, _+_, _^_, _*_}
+use Prim.Native.Nat.{ℕ, zero, suc, _<_, _≤_, _+_, _^_}
 use native.Mathlib.Omega.{arith}
-use mathlib.Core.Path.{_≡_, refl, ap, ap₂, sym, _∙_}
+use mathlib.Core.Path.{_≡_, refl, ap, sym, _∙_}
 use mathlib.Core.Logic.{⊎-elim}
 use mathlib.Core.Bool.{Bool, true, false, not, cond, _&&_, _||_, or-false, or-true, and-false}
 use mathlib.Core.List.{List, [], _∷_, _++_, map, map-append}
-use mathlib.Core.Option.{Option, some, none}
+use mathlib.Core.Option.{some}
 use lib.Dec.{eqb, ltb}
-use lib.ListN.{length, getD, replicate}
+use lib.ListN.{replicate}
 use borrow.Author.Tests.{eqb-true, eqb-false, eq-eqb, ne-eqb, lt-ltb, le-ltb}
-use Rattle.base.specs.Tests.{equal-or, below-or}
+use Rattle.base.specs.Tests.{equal-or}
 use Rattle.base.specs.Each.{Each}
 use Rattle.base.specs.Places.{places, count, count-agree, count-most}
 use Rattle.kept.specs.PlaceLaws.{last-yes, last-no}
@@ -18,9 +18,9 @@ use Rattle.kept.specs.Tabulate.{updated, updated-here, updated-there, up
 use Rattle.kept.specs.SetOfLaws.{ltb-suc}
 use Rattle.kept.specs.CountedSet.{andThen, moved}
 use Rattle.kept.specs.CountedSetLaws.{count-more}
-use Rattle.kept.specs.Reading.{Node, Producer, Root, nodeReader, producerReader, rootReader, readingOf, packed-read}
+use Rattle.kept.specs.Reading.{nodeReader, producerReader, rootReader, readingOf, packed-read}
 use Rattle.kept.specs.Readers.{joined, joined-more, occurrences, readingNode, readersOf}
-use Rattle.kept.specs.Tables.{Tables, atomCount, nodeCount, rootCount, rootAt, headAt, bodyAt, operandsAt}
+use Rattle.kept.specs.Tables.{Tables, nodeCount, rootCount, rootAt, headAt, bodyAt, operandsAt}
 use Rattle.kept.specs.Evaluation.{Evaluation, held, bodyTrue, supports, support, falseRoot}
 use Rattle.kept.specs.Step.{readerUpdated, readersUpdated}
 use Rattle.kept.specs.Consistent.{Consistent, readersIn, operands-lower}

@@ -1,7 +1,7 @@
 -- A packed reader: its tag in the top two bits of a u64, its index below; 0 node, 2 producer, 3 root, and 1 is never made.
 -- Assumes nothing.
 use Prim.Native.Nat.{ℕ, zero, suc, _+_, _*_, _/_, _%_, _^_, _<_}
-use mathlib.Core.Path.{_≡_, refl, ap₂}
+use mathlib.Core.Path.{_≡_, ap₂}
 use lib.Arith.{digits-div, digits-mod}
 
 pub data Reading : Type 0 where

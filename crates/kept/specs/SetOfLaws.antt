@@ -1,12 +1,12 @@
 -- Words of a set given by a test: its members, and that no other words hold them.
 -- Assumes nothing.
 use Prim.Native.Nat.{ℕ, zero, suc, _+_, _-_, _*_, _/_, _%_, _^_, _<_, _≤_}
-use native.Mathlib.Nat.{pow-suc, mul-comm, zero-add}
+use native.Mathlib.Nat.{pow-suc, zero-add}
 use native.Mathlib.Numerals.{add-one}
 use native.Mathlib.Omega.{arith}
-use mathlib.Core.Path.{_≡_, refl, ap, ap₂, sym, _∙_}
+use mathlib.Core.Path.{_≡_, refl, ap, sym, _∙_}
 use mathlib.Core.Logic.{⊎-elim}
-use mathlib.Core.Bool.{Bool, true, false, not, _&&_, _||_, or-false, and-false, true≢false}
+use mathlib.Core.Bool.{Bool, true, false, _&&_, _||_, and-false, true≢false}
 use mathlib.Core.List.{List, [], _∷_, _++_}
 use lib.Arith.{digits-div, digits-mod, digits-lt}
 use lib.Dec.{eqb, ltb}
@@ -15,13 +15,12 @@ use lib.Pow.{pow-pos}
 use lib.Seq.{ext-getD}
 use borrow.Author.Tests.{eqb-true, eqb-false, eq-eqb, ne-eqb, lt-ltb, le-ltb}
 use Rattle.base.specs.Tests.{equal-or, below-or}
-use Rattle.base.specs.Places.{places, places-yes, places-no, places-split, places-agree, lowest, lowest-only, Lowest}
+use Rattle.base.specs.Places.{places, places-yes, places-no, places-split, places-agree, lowest-only}
 use Rattle.words.specs.Bit.{bit}
 use Rattle.words.specs.BitLaws.{bit-shift}
 use Rattle.words.specs.Sets.{member, inserted, removed}
-use Rattle.words.specs.SetLaws.{member-inserted, member-removed, member-zeros, member-past, length-inserted, length-removed, inserted-small, removed-small}
+use Rattle.words.specs.SetLaws.{member-inserted, member-removed, member-zeros, length-inserted, length-removed, inserted-small, removed-small}
 use Rattle.words.specs.Next.{next}
-use Rattle.words.specs.NextLaws.{next-is}
 use Rattle.kept.specs.Tabulate.{updated, updated-here, updated-there}
 use Rattle.kept.specs.SetOf.{words32, allInserted, setOf}
 

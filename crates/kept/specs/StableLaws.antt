@@ -1,25 +1,23 @@
 -- What the verdict stable asks of planned tables is what Fages' theorem asks of their theory.
 -- Assumes nothing.
-use Prim.Native.Nat.{ℕ, zero, suc, _+_, _<_, _≤_}
+use Prim.Native.Nat.{ℕ, zero, suc, _<_}
 use native.Mathlib.Numerals.{add-one}
 use native.Mathlib.Omega.{arith}
 use mathlib.Core.Path.{_≡_, refl, ap, ap₂, sym, _∙_}
-use mathlib.Core.Logic.{_↔_}
-use mathlib.Core.Bool.{Bool, true, false, not, _&&_, _||_, and-true, true≢false}
+use mathlib.Core.Bool.{Bool, true, false, _&&_, _||_, and-true, true≢false}
 use mathlib.Core.List.{List, [], _∷_, _++_, map}
 use lib.Dec.{eqb}
-use lib.ListN.{length, getD, take}
+use lib.ListN.{length, getD}
 use borrow.Author.Tests.{eqb-true, eq-eqb}
 use Rattle.base.specs.Tests.{both, both-left, both-right, neither-left, neither-right}
-use Rattle.base.specs.Each.{Each, each-map}
-use Rattle.formula.specs.Formula.{Formula, Formulas, ofList}
+use Rattle.base.specs.Each.{Each}
+use Rattle.formula.specs.Formula.{Formula, ofList}
 use Rattle.formula.specs.Satisfaction.{Interpretation, sat, all}
 use Rattle.formula.specs.Passes.{Within}
 use Rattle.formula.specs.Root as papers
 use Rattle.formula.specs.Support.{produces, supported, SupportedModel}
 use Rattle.formula.specs.Head.{headAtom}
 use Rattle.theory.specs.NodeFormula.{formula, rootFormulas}
-use Rattle.theory.specs.NodeTruth.{nodeTruths}
 use Rattle.theory.specs.Refusals.{not-both}
 use Rattle.theory.proofs.Meaning.{truth-at}
 use Rattle.theory.specs.declared.Admission.the-variants.{Admitted}
@@ -30,7 +28,7 @@ use Rattle.compile.specs.declared.Producer.{Producer}
 use Rattle.compile.specs.declared.Produced.{Produced}
 use Rattle.compile.specs.declared.Produced.the-variants.{Nothing, Made, Refused}
 use Rattle.compile.proofs.RootFormula.{root-formula}
-use Rattle.kept.specs.Tables.{Tables, atomCount, nodeCount, rootCount, rootAt, headAt, bodyAt}
+use Rattle.kept.specs.Tables.{Tables, atomCount, rootCount, rootAt, bodyAt}
 use Rattle.kept.specs.Evaluation.{truth, bodyTrue}
 use Rattle.kept.specs.Demand.{AllTrue, Unproduced, AllProduced}
 use Rattle.kept.specs.Planned.{classesIn, producersIn, PlannedTables}

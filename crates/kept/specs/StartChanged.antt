@@ -1,6 +1,6 @@
 -- The start of the walk goes over the changed atoms alone, on any evaluation that fits its tables.
 -- Assumes nothing.
-use Prim.Native.Nat.{ℕ, zero, suc, _<_, _≤_, _+_, _*_, _/_}
+use Prim.Native.Nat.{ℕ, zero, suc, _<_, _≤_, _+_, _/_}
 use native.Mathlib.Omega.{arith}
 use mathlib.Core.Path.{_≡_, refl, ap, sym, _∙_}
 use mathlib.Core.Bool.{Bool, true, false, cond, _&&_}
@@ -12,7 +12,7 @@ use borrow.Author.Tests.{ne-eqb}
 use Rattle.base.specs.Places.{places, places-yes, places-no, places-agree}
 use Rattle.formula.specs.Satisfaction.{Interpretation}
 use Rattle.words.specs.Changed.{unlike}
-use Rattle.words.specs.Sets.{member, inserted, removed}
+use Rattle.words.specs.Sets.{member}
 use Rattle.words.specs.SetLaws.{member-inserted, member-removed}
 use Rattle.kept.specs.OptionLaws.{some-is, if-some, then-some}
 use Rattle.kept.specs.CountedSet.{andThen, withBit, withMember}

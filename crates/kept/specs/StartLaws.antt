@@ -3,14 +3,14 @@
 use Prim.Native.Nat.{ℕ, zero, suc, _<_, _≤_, _+_, _-_, _*_}
 use native.Mathlib.Omega.{arith}
 use native.Mathlib.Nat.{zero-add, add-zero}
-use mathlib.Core.Path.{_≡_, refl, ap, ap₂, sym, _∙_}
+use mathlib.Core.Path.{_≡_, refl, ap, sym, _∙_}
 use mathlib.Core.Logic.{⊎-elim}
-use mathlib.Core.Bool.{Bool, true, false, not, cond, _&&_, _||_, or-false, or-true, and-false}
+use mathlib.Core.Bool.{Bool, true, false, cond, _&&_, _||_, or-false, or-true, and-false}
 use mathlib.Core.List.{List, [], _∷_, _++_}
 use mathlib.Core.Option.{Option, some, none}
-use lib.Dec.{eqb, ltb}
-use lib.ListN.{length, getD}
-use borrow.Author.Tests.{eqb-true, eqb-false, eq-eqb, ne-eqb, lt-ltb, le-ltb}
+use lib.Dec.{ltb}
+use lib.ListN.{length}
+use borrow.Author.Tests.{eq-eqb, ne-eqb, lt-ltb, le-ltb}
 use Rattle.base.specs.Tests.{equal-or, and-true}
 use Rattle.base.specs.Places.{places, lowest, lowest-only, Lowest}
 use Rattle.formula.specs.Satisfaction.{Interpretation}
@@ -24,13 +24,13 @@ use Rattle.kept.specs.PlaceLaws.{last-yes, last-no}
 use Rattle.kept.specs.Tabulate.{updated, updated-is, updated-same, switched, switched-below, switched-from, switched-next}
 use Rattle.kept.specs.SetOf.{setOf}
 use Rattle.kept.specs.SetOfLaws.{ltb-suc, member-above, length-setOf}
-use Rattle.kept.specs.CountedSet.{andThen, withMember, withBit}
+use Rattle.kept.specs.CountedSet.{andThen}
 use Rattle.kept.specs.CountedSetLaws.{unlike-false}
 use Rattle.kept.specs.Readers.{isAtomOf, atomNodesOf}
-use Rattle.kept.specs.Tables.{Tables, atomCount, nodeCount, rootCount, sound, atomNodesAt}
+use Rattle.kept.specs.Tables.{Tables, atomCount, nodeCount, atomNodesAt}
 use Rattle.kept.specs.Evaluation.{Evaluation, present, held, truth, support, falseRoot, summary, fresh}
-use Rattle.kept.specs.Step.{withCandidate, entered}
-use Rattle.kept.specs.Walk.{allEntered, atomTurned, atomUpdated, walkStart, ended, broken, walk, walkFrom, keptWalk, touchedNode, touched, dirty}
+use Rattle.kept.specs.Step.{entered}
+use Rattle.kept.specs.Walk.{allEntered, atomTurned, atomUpdated, walkStart, ended, broken, walkFrom, keptWalk, touchedNode, touched, dirty}
 use Rattle.kept.specs.Consistent.{Consistent, atomNodesIn, atom-lower}
 use Rattle.kept.specs.HeldLaws.{held-agree, worklist-agree, present-held, candidate-held, entered-held}
 use Rattle.kept.specs.WalkLaws.{midway, midway-start, walk-midway}

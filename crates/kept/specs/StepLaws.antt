@@ -1,13 +1,12 @@
 -- One step on an evaluation that summarises its truths.
 -- Assumes nothing.
-use Prim.Native.Nat.{ℕ, zero, suc, _<_, _≤_, _+_}
+use Prim.Native.Nat.{ℕ, _<_}
 use native.Mathlib.Omega.{arith}
 use mathlib.Core.Path.{_≡_, refl, ap, ap₂, sym, _∙_, fun-ext}
 use mathlib.Core.Bool.{Bool, true, false, not, cond, _&&_, _||_, or-false}
-use mathlib.Core.List.{List, [], _∷_, map}
-use mathlib.Core.Option.{Option, some, none}
-use lib.Dec.{eqb, ltb}
-use lib.ListN.{getD, set}
+use mathlib.Core.List.{List}
+use lib.Dec.{ltb}
+use lib.ListN.{set}
 use borrow.Author.Tests.{lt-ltb}
 use Rattle.base.specs.Each.{Each, each-map, map-agree}
 use Rattle.base.specs.Rising.{rising-step}
@@ -18,12 +17,12 @@ use Rattle.theory.specs.declared.Node.{Node}
 use Rattle.theory.specs.declared.Node.the-variants.{Atom, False, Implies, And, Or, Unknown}
 use Rattle.words.specs.Changed.{unlike}
 use Rattle.kept.specs.Tabulate.{updated, updated-same}
-use Rattle.kept.specs.CountedSet.{andThen, withMember, countedSet, at, lookup}
+use Rattle.kept.specs.CountedSet.{andThen, withMember, at, lookup}
 use Rattle.kept.specs.CountedSetLaws.{unlike-false, unlike-true, member-set, lookup-at}
-use Rattle.kept.specs.Tables.{Tables, atomCount, nodeCount, rootCount, operandsAt, sound, readersAt}
+use Rattle.kept.specs.Tables.{Tables, nodeCount, operandsAt, sound, readersAt}
 use Rattle.kept.specs.Evaluation.{Evaluation, truthAt, present, truthWord, held, truth, support, falseRoot, summary}
-use Rattle.kept.specs.Step.{withTruths, withWorklist, readersUpdated, Stepped, took, fault, tookAt, settled, settledFrom, seen, stepAt, step}
-use Rattle.kept.specs.Consistent.{Consistent, readersIn, operands-lower, atom-lower}
+use Rattle.kept.specs.Step.{withTruths, readersUpdated, took, tookAt, settled, settledFrom, seen, stepAt, step}
+use Rattle.kept.specs.Consistent.{Consistent, operands-lower, atom-lower}
 use Rattle.kept.specs.HeldLaws.{worklist-agree, truth-held, present-held, truths-held}
 use Rattle.kept.specs.ReaderLaws.{among, readers-told}
 

@@ -1,30 +1,30 @@
 -- The tests before 17: none of them is 17, and a candidate that passes them has atoms alone.
 -- Assumes nothing.
-use Prim.Native.Nat.{ℕ, zero, suc, _<_, _≤_, _+_, _-_, _*_, _/_}
+use Prim.Native.Nat.{ℕ, _<_, _≤_, _-_, _*_, _/_}
 use native.Mathlib.Omega.{arith}
-use mathlib.Core.Path.{_≡_, refl, ap, sym, _∙_}
+use mathlib.Core.Path.{_≡_, refl, sym, _∙_}
 use mathlib.Core.Logic.{⊎-elim}
 use mathlib.Core.Bool.{Bool, true, false, cond, _&&_, true≢false}
 use mathlib.Core.List.{List, [], _∷_}
 use lib.Dec.{eqb, ltb}
 use lib.ListN.{length}
-use borrow.Author.Tests.{lt-ltb}
+use borrow.Author.Tests.{lt-ltb, ltb-false}
 use Rattle.base.specs.Tests.{below-or}
+use Rattle.base.specs.Each.{Each}
 use Rattle.base.specs.Places.{Lowest}
 use Rattle.formula.specs.Passes.{Within}
 use Rattle.theory.specs.Admission.{orElse}
 use Rattle.theory.specs.Limits.{limitsOf}
-use Rattle.theory.specs.Refusals.{not-both, or-else-right}
+use Rattle.theory.specs.Refusals.{not-both, or-else-left, or-else-right}
 use Rattle.theory.specs.declared.Admission.{Admission}
 use Rattle.theory.specs.declared.Admission.the-variants.{Admitted, Refused}
 use Rattle.theory.specs.declared.Counts.{Counts}
-use Rattle.theory.specs.declared.Refusal.{Refusal}
 use Rattle.theory.specs.declared.Refusal.the-variants.{PastLimit, ShortBuffer, ForeignStamp, StrayBit, BadEntry}
 use Rattle.words.specs.Sets.{member}
 use Rattle.words.specs.SetLaws.{member-past}
 use Rattle.words.specs.Next.{next}
 use Rattle.words.specs.NextLaws.{next-is}
-use Rattle.kept.specs.Tables.{Tables, atomCount, nodeCount, rootCount}
+use Rattle.kept.specs.Tables.{Tables, atomCount}
 use Rattle.kept.specs.Outcome.{Candidate, listedWords, atomsOf, Buffer, buffers, firstShort, stamps, strayBit, tests}
 
 -- ---- no 17
@@ -118,3 +118,20 @@ module _ (T : Tables) (c : Candidate) where
       stray-within (or-else-right (stamps T c) (strayBit T c)
       (or-else-right (firstShort (buffers T c size)) (orElse (stamps T c) (strayBit T c))
       (or-else-right (limitsOf (T .counts)) (orElse (firstShort (buffers T c size)) (orElse (stamps T c) (strayBit T c))) e)))
+
+  -- the lent buffers are long enough
+  long-by : (bs : List Buffer) → firstShort bs ≡ Admitted → Each (λ b. b .least ≤ b .lent) bs
+  unfolding firstShort
+  long-by [] e = tt
+  long-by (b ∷ bs) e = go (ltb (b .lent) (b .least)) refl e (long-by bs)
+    where
+      go : (t : Bool) → ltb (b .lent) (b .least) ≡ t → cond t (Refused (ShortBuffer (b .number))) (firstShort bs) ≡ Admitted
+          → (firstShort bs ≡ Admitted → Each (λ b. b .least ≤ b .lent) bs) → Each (λ b. b .least ≤ b .lent) (b ∷ bs)
+      go true q h ih = absurd (not-both (ShortBuffer (b .number)) h)
+      go false q h ih = (ltb-false (b .lent) (b .least) q, ih h)
+
+  pub lent-long : (size : ℕ) → tests T c size ≡ Admitted → Each (λ b. b .least ≤ b .lent) (buffers T c size)
+  unfolding tests
+  lent-long size e =
+      long-by (buffers T c size) (or-else-left (firstShort (buffers T c size)) (orElse (stamps T c) (strayBit T c))
+      (or-else-right (limitsOf (T .counts)) (orElse (firstShort (buffers T c size)) (orElse (stamps T c) (strayBit T c))) e))

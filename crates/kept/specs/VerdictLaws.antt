@@ -1,14 +1,12 @@
 -- The verdict on a candidate names what demand 2 says; a fresh evaluation tells it.
 -- Assumes nothing.
-use Prim.Native.Nat.{ℕ, zero, suc, _<_, _≤_, _+_}
+use Prim.Native.Nat.{ℕ, _<_, _≤_}
 use native.Mathlib.Omega.{arith}
-use native.Mathlib.Nat.{zero-add}
 use mathlib.Core.Path.{_≡_, refl, ap, ap₂, sym, _∙_}
 use mathlib.Core.Logic.{⊎-elim}
-use mathlib.Core.Bool.{Bool, true, false, not, cond, _&&_, true≢false}
-use mathlib.Core.Option.{Option, some, none}
+use mathlib.Core.Bool.{Bool, true, false, cond, _&&_, true≢false}
+use mathlib.Core.Option.{some}
 use lib.Dec.{eqb, ltb}
-use lib.ListN.{getD}
 use borrow.Author.Tests.{eqb-true, eq-eqb, not-true, not-false, lt-ltb, le-ltb}
 use Rattle.base.specs.Tests.{both, both-left, both-right, below-or}
 use Rattle.base.specs.Places.{lowest, lowest-is, lowest-only, Lowest, count-none}
@@ -17,7 +15,7 @@ use Rattle.kept.specs.CountedSet.{Lookup, empty, at, lookup, countedSet}
 use Rattle.kept.specs.CountedSetLaws.{count-zero, lookup-at, lookup-empty}
 use Rattle.kept.specs.Tables.{Tables, atomCount, rootCount, rootAt, headAt, bodyAt}
 use Rattle.kept.specs.Evaluation.{held, truth, bodyTrue, supports, support, falseRoot, summary, fresh}
-use Rattle.kept.specs.Verdict.{Verdict, notModel, residual, stable, missingAtom, firstFalse, firstMissing, verdict, judged, verdictOf}
+use Rattle.kept.specs.Verdict.{notModel, residual, stable, missingAtom, firstFalse, firstMissing, verdict, judged, verdictOf}
 use Rattle.kept.specs.Demand.{FirstFalse, AllTrue, Unproduced, FirstUnproduced, AllProduced, Right}
 
 clash : {A : Type 0} (b : Bool) → b ≡ true → b ≡ false → A

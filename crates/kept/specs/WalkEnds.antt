@@ -17,9 +17,8 @@ use Rattle.words.specs.Sets.{member}
 use Rattle.words.specs.SetLaws.{member-inserted, member-removed}
 use Rattle.words.specs.Next.{next}
 use Rattle.words.specs.NextLaws.{next-is}
-use Rattle.kept.specs.SetOf.{words32}
 use Rattle.kept.specs.OptionLaws.{some-is, if-some, then-some}
-use Rattle.kept.specs.CountedSet.{andThen, CountedSet, moved, withBit, withMember, Lookup, empty, astray, at, lookup}
+use Rattle.kept.specs.CountedSet.{andThen, CountedSet, moved, withBit, withMember, empty, astray, at, lookup}
 use Rattle.kept.specs.CountedSetLaws.{unlike-false}
 use Rattle.kept.specs.Reading.{Reading, Node, Producer, Root, Unknown, readingOf}
 use Rattle.kept.specs.Tables.{Tables, atomCount, nodeCount, rootCount, headAt, sound, readersAt}
@@ -27,7 +26,7 @@ use Rattle.kept.specs.Evaluation.{Evaluation, truthAt, present, truthWor
 use Rattle.kept.specs.Step.{withTruths, withWorklist, withSupport, withFalseRoots, entered, supportMoved, rootTurned, readerUpdated, readersUpdated, Stepped, idle, took, fault, tookAt, settled, settledFrom, seen, stepAt, step}
 use Rattle.kept.specs.Walk.{Walked, ended, broken, after, onward, walk}
 use Rattle.kept.specs.LayoutLaws.{Fits}
-use Rattle.kept.specs.FitsLaws.{length-members, reader-fits, settled-cases, Taken, taken, step-fits}
+use Rattle.kept.specs.FitsLaws.{length-members, reader-fits, settled-cases, Taken, taken}
 
 -- ---- membership after a change, of any words
 

@@ -4,15 +4,13 @@ use Prim.Native.Nat.{ℕ, zero, suc, _<_, _≤_, _+_}
 use native.Mathlib.Omega.{arith}
 use native.Mathlib.Nat.{not-suc-le-zero}
 use native.Mathlib.Numerals.{add-one}
-use mathlib.Core.Path.{_≡_, refl, ap, ap₂, sym, _∙_}
-use mathlib.Core.Logic.{⊎-elim}
+use mathlib.Core.Path.{_≡_, refl, ap, sym, _∙_}
 use mathlib.Core.Bool.{Bool, true, false, not, cond, _&&_, _||_, or-false, or-true, and-false, or-assoc}
 use mathlib.Core.List.{List, [], _∷_, map}
 use lib.Dec.{eqb, ltb, leb}
-use lib.ListN.{getD}
 use borrow.Author.Tests.{eqb-true, eqb-false, ne-eqb, ltb-true, ltb-false, lt-ltb, le-ltb, le-leb, lt-leb}
-use Rattle.base.specs.Tests.{equal-or, below-or, neither-left, neither-right}
-use Rattle.base.specs.Each.{Each, each-map, map-agree}
+use Rattle.base.specs.Tests.{neither-left, neither-right}
+use Rattle.base.specs.Each.{Each, map-agree}
 use Rattle.base.specs.Places.{places, places-yes, places-no, count-agree}
 use Rattle.formula.specs.Satisfaction.{Interpretation}
 use Rattle.theory.specs.Node.{nodeAt}
@@ -21,10 +19,9 @@ use Rattle.theory.specs.declared.Node.the-variants.{Atom}
 use Rattle.words.specs.Changed.{unlike}
 use Rattle.kept.specs.Tabulate.{updated, updated-here, updated-there, updated-same, switched, switched-below, switched-from, switched-next}
 use Rattle.kept.specs.SetOfLaws.{ltb-suc}
-use Rattle.kept.specs.CountedSet.{empty, lookup}
 use Rattle.kept.specs.CountedSetLaws.{unlike-false, unlike-same, lookup-empty}
 use Rattle.kept.specs.Readers.{occurrences}
-use Rattle.kept.specs.Tables.{Tables, atomCount, nodeCount, rootCount, rootAt, headAt, bodyAt, operandsAt, sound}
+use Rattle.kept.specs.Tables.{Tables, atomCount, nodeCount, rootAt, headAt, bodyAt, operandsAt}
 use Rattle.kept.specs.Evaluation.{Evaluation, held, truth, bodyTrue, supports, support, falseRoot, summary, fresh}
 use Rattle.kept.specs.Step.{idle, took, stepAt, step}
 use Rattle.kept.specs.Walk.{ended, walk, touchedNode, touched, flips, dirty}
