@@ -1,4 +1,3 @@
 pub mod Walk
 pub mod Series
-pub mod AnyWords
 pub mod Drawing

@@ -29,9 +29,3 @@ pub mod PlannedLaws
 pub mod StableLaws
 pub mod Series
 pub mod TestLaws
-pub mod OptionLaws
-pub mod FitsLaws
-pub mod WalkEnds
-pub mod Filling
-pub mod Halves
-pub mod StartChanged

@@ -6,24 +6,24 @@ use native.Mathlib.Nat.{mod-lt, zero-add}
 use mathlib.Core.Path.{_≡_, refl, ap, ap₂, sym, _∙_}
 use mathlib.Core.Logic.{⊎-elim}
 use mathlib.Core.Bool.{Bool, true, false, _&&_}
-use mathlib.Core.List.{List}
+use mathlib.Core.List.{List, _∷_, map}
 use lib.Arith.{digits-div, digits-mod}
-use lib.Bits.{bitXor}
+use lib.Bits.{bitXor, xor-lt}
 use lib.Count.{ones}
 use lib.Dec.{eqb, ltb}
-use lib.ListN.{length, getD, List·getD-eq-default}
+use lib.ListN.{length, getD, List·getD-eq-default, length-map}
 use lib.Pow.{field, mod-mod-pow, pow-pos}
 use borrow.Author.Tests.{lt-ltb, le-ltb}
 use Rattle.base.specs.Tests.{below-or}
-use Rattle.base.specs.Places.{places, places-yes, places-no, count, count-split, count-agree}
+use Rattle.base.specs.Places.{places, places-yes, places-no, places-agree, count, count-split}
 use Rattle.formula.specs.Passes.{Within}
 use Rattle.words.specs.Bit.{bit}
-use Rattle.words.specs.BitLaws.{bit-shift, ones-changed}
-use Rattle.words.specs.Changed.{unlike, changed}
+use Rattle.words.specs.BitLaws.{bit-shift, bit-xor, ones-count}
+use Rattle.words.specs.Changed.{unlike}
 use Rattle.words.specs.Sets.{member}
 use Rattle.kept.specs.Tabulate.{tabulate, length-tabulate, tabulate-at}
 use Rattle.kept.specs.SetOf.{words32, setOf}
 use Rattle.kept.specs.SetOfLaws.{Small, setOf-is}
 
 -- ---- halves
 
@@ -83,38 +83,51 @@ halves ws n w =
         outside j l true e = absurd (omega (arith, w j e))
         outside j l false e = e
 
--- ---- the difference of two sets, word by word
+-- ---- the difference of the kept candidate and the new one, word by word
 
--- places counted from i on
-count-shift : (p : ℕ → Bool) (i n j : ℕ) → count p (i + j) n ≡ count (λ k. p (i + k)) j n
-unfolding count places
-count-shift p i zero j = refl
-count-shift p i (suc n) j = go (p (i + j)) refl (count-shift p i n (j + 1))
+-- the places from i + j on are those of the test seen from i
+places-shift : (p : ℕ → Bool) (i n j : ℕ) → places p (i + j) n ≡ map (λ k. i + k) (places (λ k. p (i + k)) j n)
+unfolding places
+places-shift p i zero j = refl
+places-shift p i (suc n) j = go (p (i + j)) refl (places-shift p i n (j + 1))
   where
     next : i + j + 1 ≡ i + (j + 1)
     next = omega arith
 
-    go : (b : Bool) → p (i + j) ≡ b → count p (i + (j + 1)) n ≡ count (λ k. p (i + k)) (j + 1) n → length (places p (i + j) (suc n)) ≡ length (places (λ k. p (i + k)) j (suc n))
-    go true e ih = rw (places-yes p (i + j) n e, places-yes (λ k. p (i + k)) j n e, next) (ap suc ih)
+    go : (b : Bool) → p (i + j) ≡ b → places p (i + (j + 1)) n ≡ map (λ k. i + k) (places (λ k. p (i + k)) (j + 1) n)
+        → places p (i + j) (suc n) ≡ map (λ k. i + k) (places (λ k. p (i + k)) j (suc n))
+    go true e ih = rw (places-yes p (i + j) n e, places-yes (λ k. p (i + k)) j n e, next) (ap (λ ks. (i + j) ∷ ks) ih)
     go false e ih = rw (places-no p (i + j) n e, places-no (λ k. p (i + k)) j n e, next) ih
 
--- the places of word i that differ are the ones of the words' difference
-pub word-changes : (xs ys : List ℕ) (i : ℕ) → Small 32 xs → Small 32 ys
-    → count (λ a. unlike (member 32 xs a) (member 32 ys a)) (i * 32) 32 ≡ ones (bitXor (getD xs i 0) (getD ys i 0))
-unfolding changed member
-word-changes xs ys i sx sy =
-    ap (λ m. count differs m 32) start ∙ count-shift differs (i * 32) 32 0
-    ∙ count-agree (λ k. differs (i * 32 + k)) (λ k. unlike (bit (getD xs i 0) k) (bit (getD ys i 0) k)) 0 32 (λ k a b. at k (omega arith))
-    ∙ sym (ones-changed 32 (getD xs i 0) (getD ys i 0) (sx i) (sy i))
-  where
-    differs : ℕ → Bool
-    differs a = unlike (member 32 xs a) (member 32 ys a)
+-- word i of the kept candidate against half i of the new one
+module _ (kept new : List ℕ) (i : ℕ) where
+  abbrev differ : ℕ → Bool
+  differ a = unlike (member 32 kept a) (member 64 new a)
 
-    start : i * 32 ≡ i * 32 + 0
-    start = omega arith
+  -- the digits that differ
+  abbrev pub difference : ℕ
+  difference = bitXor (getD kept i 0) (half new i)
 
-    at : (k : ℕ) → k < 32 → unlike (bit (getD xs ((i * 32 + k) / 32) 0) ((i * 32 + k) % 32)) (bit (getD ys ((i * 32 + k) / 32) 0) ((i * 32 + k) % 32)) ≡ unlike (bit (getD xs i 0) k) (bit (getD ys i 0) k)
-    at k l = rw (digits-div i l, digits-mod i l)
+  differ-digit : (k : ℕ) → k < 32 → differ (i * 32 + k) ≡ bit difference k
+  unfolding member
+  differ-digit k l =
+      ap₂ unlike (ap₂ (λ q r. bit (getD kept q 0) r) (digits-div i l) (digits-mod i l))
+      (sym (half-bit new (i * 32 + k)) ∙ ap₂ (λ q r. bit (half new q) r) (digits-div i l) (digits-mod i l))
+      ∙ sym (bit-xor (getD kept i 0) (half new i) k)
+
+  -- the changed atoms of word i are the places of the difference (trailing zeros give the lowest: words' `places-trailing`)
+  pub word-places : places (λ a. unlike (member 32 kept a) (member 64 new a)) (i * 32) 32 ≡ map (λ k. i * 32 + k) (places (bit difference) 0 32)
+  word-places =
+      let start : i * 32 ≡ i * 32 + 0 = omega arith in
+      ap (λ m. places differ m 32) start ∙ places-shift differ (i * 32) 32 0
+      ∙ ap (map (λ k. i * 32 + k)) (places-agree (λ k. differ (i * 32 + k)) (bit difference) 0 32 (λ k a b. differ-digit k (omega arith)))
+
+  -- and as many as its ones
+  pub word-changes : getD kept i 0 < 2 ^ 32 → count (λ a. unlike (member 32 kept a) (member 64 new a)) (i * 32) 32 ≡ ones difference
+  unfolding count
+  word-changes small =
+      ap length word-places ∙ length-map (places (bit difference) 0 32) (λ k. i * 32 + k)
+      ∙ sym (ones-count 32 difference (xor-lt 32 (getD kept i 0) (half new i) small (half-small new i)))
 
 -- one word more
 pub changes-next : (p : ℕ → Bool) (i : ℕ) → count p 0 (suc i * 32) ≡ count p 0 (i * 32) + count p (i * 32) 32

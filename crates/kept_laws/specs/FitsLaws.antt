@@ -12,14 +12,14 @@ use Rattle.formula.specs.Satisfaction.{Interpretation}
 use Rattle.words.specs.Changed.{unlike}
 use Rattle.words.specs.Sets.{member}
 use Rattle.words.specs.SetLaws.{length-inserted, length-removed}
-use Rattle.kept.specs.OptionLaws.{some-is, if-some, then-some}
+use Rattle.kept_laws.specs.OptionLaws.{some-is, if-some, then-some}
 use Rattle.kept.specs.CountedSet.{andThen, CountedSet, moved, withBit, withMember, Lookup, empty, astray, at, lookup}
 use Rattle.kept.specs.Reading.{Reading, Node, Producer, Root, Unknown, readingOf}
 use Rattle.kept.specs.Tables.{Tables, atomCount, nodeCount, rootCount, headAt, sound, readersAt, atomNodesAt}
 use Rattle.kept.specs.Evaluation.{Evaluation, truthAt, present, truthWord}
 use Rattle.kept.specs.Step.{withTruths, withWorklist, withSupport, withCandidate, withFalseRoots, entered, supportMoved, rootTurned, readerUpdated, readersUpdated, took, fault, tookAt, settled, settledFrom, seen, stepAt, step}
 use Rattle.kept.specs.Walk.{allEntered, atomTurned, atomUpdated, walkStart}
 use Rattle.kept.specs.LayoutLaws.{Fits}
 
 length-bit : (ws : List ℕ) (i : ℕ) (x : Bool) → length (withBit ws i x) ≡ length ws
 unfolding withBit

@@ -14,15 +14,15 @@ use Rattle.formula.specs.Satisfaction.{Interpretation}
 use Rattle.words.specs.Changed.{unlike}
 use Rattle.words.specs.Sets.{member}
 use Rattle.words.specs.SetLaws.{member-inserted, member-removed}
-use Rattle.kept.specs.OptionLaws.{some-is, if-some, then-some}
+use Rattle.kept_laws.specs.OptionLaws.{some-is, if-some, then-some}
 use Rattle.kept.specs.CountedSet.{andThen, withBit, withMember}
 use Rattle.kept.specs.Tables.{Tables, atomCount, nodeCount, atomNodesAt}
 use Rattle.kept.specs.Evaluation.{Evaluation, present}
 use Rattle.kept.specs.Step.{withWorklist, withCandidate, entered}
 use Rattle.kept.specs.Walk.{allEntered, atomTurned, walkStart}
 use Rattle.kept.specs.LayoutLaws.{Fits}
-use Rattle.kept.specs.FitsLaws.{atom-fits}
-use Rattle.kept.specs.StartLaws.{startFrom, start-from, start-jump, start-turn}
+use Rattle.kept_laws.specs.FitsLaws.{atom-fits}
+use Rattle.kept_laws.specs.StartFrom.{startFrom, start-from, start-jump, start-turn}
 
 module _ (T : Tables) where
   entered-candidate : (m : ℕ) (e d : Evaluation) → entered T m e ≡ some d → d .candidate ≡ e .candidate
