@@ -75,16 +75,7 @@ shown =
     lines drawn (zeroedWords drawn (9 ∷ []))
     (of 7 2 ∷ of 8 0 ∷ of 7 3 ∷ of 7 7 ∷ of 7 1 ∷ record { stamp = 7; words = [] } ∷ of 7 0 ∷ of 7 0 ∷ [])
 
-c1-to-c4 : shown
-    ≡ accepted (residual 1) 6 ∷ refused ForeignStamp ∷ accepted stable 4 ∷ refused (StrayBit 2) ∷ accepted (notModel 2) 2 ∷ refused (ShortBuffer 0) ∷ accepted stable 4 ∷ accepted stable 0 ∷ []
-unfolding shown lines of drawn outcome outcomeAt tests limitsOf firstShort stamps strayBit atomsOf cleared written ofWords image flat cut result isKept changes keptResult freshResult tablesAdmission nodeEntry producerEntry rootEntry firstRefusal keptWalk walkStart atomUpdated atomTurned allEntered walk step stepAt seen settled readersUpdated readerUpdated rootTurned supportMoved entered verdict judged verdictOf missingAtom held truth bodyTrue supports support falseRoot summary fresh sound soundNode operandsAt between listAt readingOf setOf allInserted countedSet moved withBit withMember lookup tabulate member inserted removed next bit places count lowest nodeAt span operandsOf nodeTruth nodeTruths allTrue anyTrue allBelow rising extended
-c1-to-c4 = refl
-
--- the thresholds of 512 and 520 atoms
-thresholds : (max 64 (512 / 8) ≡ 64) × (max 64 (520 / 8) ≡ 65)
-thresholds = (refl, refl)
-
--- held words whose false roots have position 9 of 2: 17, place 0, and every listed word 0
+-- held words whose false roots have position 9 of 2
 spoilt : List ℕ
 spoilt = (1 ∷ 7 ∷ 0 ∷ 1 ∷ 0 ∷ replicate 11 0) ++ ((0 ∷ 0 ∷ 1 ∷ 0 ∷ 1 ∷ 1 ∷ []) ++ (0 ∷ 1 ∷ 0 ∷ 0 ∷ 0 ∷ 512 ∷ []) ++ replicate 8 0 ++ (9 ∷ []))
 
@@ -92,10 +83,17 @@ spoilt = (1 ∷ 7 ∷ 0 ∷ 1 ∷ 0 ∷ replicate 11 0) ++ ((0 ∷ 0 ∷ 1 ∷ 0
 astray : List ℕ
 astray = (1 ∷ 7 ∷ 0 ∷ 0 ∷ 1 ∷ replicate 11 0) ++ ((0 ∷ 0 ∷ 1 ∷ 0 ∷ 1 ∷ 1 ∷ []) ++ (512 ∷ 1 ∷ 0 ∷ 0 ∷ 0 ∷ 0 ∷ []) ++ replicate 8 0 ++ (9 ∷ []))
 
-bad-entries : (outcome 64 8 drawn (of 7 0) spoilt ≡ record { answer = refused (BadEntry 0); words = replicate 36 0 ++ (9 ∷ []) })
+-- C1 to C4, with refusals 15, 16 and 9 among them; and 17, after which every listed word is 0
+drawing : (shown
+    ≡ accepted (residual 1) 6 ∷ refused ForeignStamp ∷ accepted stable 4 ∷ refused (StrayBit 2) ∷ accepted (notModel 2) 2 ∷ refused (ShortBuffer 0) ∷ accepted stable 4 ∷ accepted stable 0 ∷ [])
+    × (outcome 64 8 drawn (of 7 0) spoilt ≡ record { answer = refused (BadEntry 0); words = replicate 36 0 ++ (9 ∷ []) })
     × (outcome 64 8 drawn (of 7 0) astray ≡ record { answer = refused (BadEntry 0); words = replicate 36 0 ++ (9 ∷ []) })
-unfolding spoilt astray of drawn outcome outcomeAt tests limitsOf firstShort stamps strayBit atomsOf cleared written ofWords image flat cut result isKept changes keptResult freshResult tablesAdmission nodeEntry producerEntry rootEntry firstRefusal keptWalk walkStart atomUpdated atomTurned allEntered walk step stepAt seen settled readersUpdated readerUpdated rootTurned supportMoved entered verdict judged verdictOf missingAtom held truth bodyTrue supports support falseRoot summary fresh sound soundNode operandsAt between listAt readingOf setOf allInserted countedSet moved withBit withMember lookup tabulate member inserted removed next bit places count lowest nodeAt span operandsOf nodeTruth nodeTruths allTrue anyTrue allBelow rising extended
-bad-entries = (refl, refl)
+unfolding shown spoilt astray lines of drawn outcome outcomeAt tests limitsOf firstShort stamps strayBit atomsOf cleared written ofWords image flat cut result isKept changes keptResult freshResult tablesAdmission nodeEntry producerEntry rootEntry firstRefusal keptWalk walkStart atomUpdated atomTurned allEntered walk step stepAt seen settled readersUpdated readerUpdated rootTurned supportMoved entered verdict judged verdictOf missingAtom held truth bodyTrue supports support falseRoot summary fresh sound soundNode operandsAt between listAt readingOf setOf allInserted countedSet moved withBit withMember lookup tabulate member inserted removed next bit places count lowest nodeAt span operandsOf nodeTruth nodeTruths allTrue anyTrue allBelow rising extended
+drawing = (refl, refl, refl)
+
+-- the thresholds of 512 and 520 atoms
+thresholds : (max 64 (512 / 8) ≡ 64) × (max 64 (520 / 8) ≡ 65)
+thresholds = (refl, refl)
 
 -- ---- the tables are planned
 

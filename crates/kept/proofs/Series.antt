@@ -29,7 +29,7 @@ use Rattle.kept.specs.Check as check
 use Rattle.kept.specs.Check.{most, result}
 use Rattle.kept.specs.CheckLaws.{changedAtoms, goneOver, result-zeroed, result-fresh}
 use Rattle.kept.specs.Consistent.{Consistent}
-use Rattle.kept.specs.Demand.{AllTrue, AllProduced, Right}
+use Rattle.kept.specs.Naming.{AllTrue, AllProduced, Right}
 use Rattle.kept.specs.VerdictLaws.{verdict-right}
 use Rattle.kept.specs.Layout.{image, ofWords, used}
 use Rattle.kept.specs.LayoutLaws.{Fits, fits-fresh, fits-zeroed, of-image, written-image, length-image, behind, zero-image}

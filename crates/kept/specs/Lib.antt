@@ -20,7 +20,7 @@ pub mod ReaderLaws
 pub mod StepLaws
 pub mod WalkLaws
 pub mod StartLaws
-pub mod Demand
+pub mod Naming
 pub mod VerdictLaws
 pub mod CheckLaws
 pub mod LayoutLaws

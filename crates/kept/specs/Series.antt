@@ -20,7 +20,7 @@ use Rattle.kept.specs.Walk.{ended, keptWalk, dirty}
 use Rattle.kept.specs.Check.{most}
 use Rattle.kept.specs.CheckLaws.{changedAtoms}
 use Rattle.kept.specs.Layout.{ofWords, listed}
-use Rattle.kept.specs.Demand.{Right}
+use Rattle.kept.specs.Naming.{Right}
 use Rattle.kept.specs.Outcome.{Candidate, atomsOf, tests, Answer, accepted, refused, outcome}
 
 abbrev pub isAccepted : Answer → Bool

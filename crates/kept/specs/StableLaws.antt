@@ -30,7 +30,7 @@ use Rattle.compile.specs.declared.Produced.the-variants.{Nothing, Made, Refused
 use Rattle.compile.proofs.RootFormula.{root-formula}
 use Rattle.kept.specs.Tables.{Tables, atomCount, rootCount, rootAt, bodyAt}
 use Rattle.kept.specs.Evaluation.{truth, bodyTrue}
-use Rattle.kept.specs.Demand.{AllTrue, Unproduced, AllProduced}
+use Rattle.kept.specs.Naming.{AllTrue, Unproduced, AllProduced}
 use Rattle.kept.specs.Planned.{classesIn, producersIn, PlannedTables}
 use Rattle.kept.specs.PlannedLaws.{noProducer, rootList, Supported, length-roots, root-listed, roots-supported, well, head-is, body-is}
 

@@ -16,7 +16,7 @@ use Rattle.kept.specs.CountedSetLaws.{count-zero, lookup-at, lookup-empt
 use Rattle.kept.specs.Tables.{Tables, atomCount, rootCount, rootAt, headAt, bodyAt}
 use Rattle.kept.specs.Evaluation.{held, truth, bodyTrue, supports, support, falseRoot, summary, fresh}
 use Rattle.kept.specs.Verdict.{notModel, residual, stable, missingAtom, firstFalse, firstMissing, verdict, judged, verdictOf}
-use Rattle.kept.specs.Demand.{FirstFalse, AllTrue, Unproduced, FirstUnproduced, AllProduced, Right}
+use Rattle.kept.specs.Naming.{FirstFalse, AllTrue, Unproduced, FirstUnproduced, AllProduced, Right}
 
 clash : {A : Type 0} (b : Bool) → b ≡ true → b ≡ false → A
 clash b p q = absurd (true≢false (sym p ∙ q))

@@ -1,3 +1,4 @@
+pub mod Stores
 pub mod OptionLaws
 pub mod FitsLaws
 pub mod WalkEnds
