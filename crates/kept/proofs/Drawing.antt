@@ -37,10 +37,13 @@ use Rattle.kept.specs.Tables.{Tables, operandsAt, soundNode, sound, betw
 use Rattle.kept.specs.Evaluation.{held, truth, bodyTrue, supports, support, falseRoot, summary, fresh}
 use Rattle.kept.specs.Verdict.{notModel, residual, stable, missingAtom, verdict, judged, verdictOf}
 use Rattle.kept.specs.Step.{entered, supportMoved, rootTurned, readerUpdated, readersUpdated, settled, seen, stepAt, step}
-use Rattle.kept.specs.Walk.{allEntered, atomTurned, atomUpdated, walkStart, walk, keptWalk}
+use Rattle.kept.specs.Start.{allEntered, atomTurned, atomUpdated, walkStart}
+use Rattle.kept.specs.Walk.{walk, keptWalk}
 use Rattle.kept.specs.Check.{nodeEntry, producerEntry, rootEntry, tablesAdmission, freshResult, keptResult, changes, isKept, result}
 use Rattle.kept.specs.Layout.{flat, cut, image, ofWords, written}
-use Rattle.kept.specs.Outcome.{Candidate, atomsOf, firstShort, stamps, strayBit, tests, Answer, accepted, refused, cleared, outcomeAt, outcome}
+use Rattle.kept.specs.Candidate.{Candidate, atomsOf}
+use Rattle.kept.specs.Tests.{firstShort, stamps, strayBit, tests}
+use Rattle.kept.specs.Outcome.{Answer, accepted, refused, cleared, outcomeAt, outcome}
 use Rattle.kept.specs.Planned.{PlannedTables}
 use Rattle.kept.specs.Series.{zeroedWords, answerTo, wordsAfter, Demand3}
 use Rattle.kept.proofs.Series.{series}

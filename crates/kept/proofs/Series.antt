@@ -33,7 +33,9 @@ use Rattle.kept.specs.Naming.{AllTrue, AllProduced, Right}
 use Rattle.kept.specs.VerdictLaws.{verdict-right}
 use Rattle.kept.specs.Layout.{image, ofWords, used}
 use Rattle.kept.specs.LayoutLaws.{Fits, fits-fresh, fits-zeroed, of-image, written-image, length-image, behind, zero-image}
-use Rattle.kept.specs.Outcome.{Candidate, atomsOf, tests, accepted, refused, Outcome, concluded, outcomeAt, outcome}
+use Rattle.kept.specs.Candidate.{Candidate, atomsOf}
+use Rattle.kept.specs.Tests.{tests}
+use Rattle.kept.specs.Outcome.{accepted, refused, Outcome, concluded, outcomeAt, outcome}
 use Rattle.kept.specs.TestLaws.{tests-not-17, atoms-within}
 use Rattle.kept.specs.Planned.{PlannedTables}
 use Rattle.kept.specs.PlannedLaws.{consistent}

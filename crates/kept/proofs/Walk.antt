@@ -8,7 +8,8 @@ use Rattle.base.specs.Places.{places}
 use Rattle.formula.specs.Satisfaction.{Interpretation}
 use Rattle.kept.specs.Tables.{Tables, nodeCount}
 use Rattle.kept.specs.Evaluation.{fresh}
-use Rattle.kept.specs.Walk.{ended, keptWalk, dirty}
+use Rattle.kept.specs.Dirty.{dirty}
+use Rattle.kept.specs.Walk.{ended, keptWalk}
 use Rattle.kept.specs.Consistent.{Consistent}
 use Rattle.kept.specs.Layout.{image, ofWords, written}
 use Rattle.kept.specs.LayoutLaws.{fits-fresh, of-image, written-image}

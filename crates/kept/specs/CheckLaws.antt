@@ -24,7 +24,8 @@ use Rattle.kept.specs.CountedSetLaws.{unlike-same}
 use Rattle.kept.specs.Tables.{Tables, atomCount, nodeCount, rootCount, rootAt, headAt, bodyAt}
 use Rattle.kept.specs.Evaluation.{zeroed, held, summary, fresh}
 use Rattle.kept.specs.Verdict.{verdict}
-use Rattle.kept.specs.Walk.{dirty, keptWalk}
+use Rattle.kept.specs.Dirty.{dirty}
+use Rattle.kept.specs.Walk.{keptWalk}
 use Rattle.kept.specs.Check.{accepted, nodeEntry, producerEntry, rootEntry, tablesAdmission, freshResult, keptResult, changes, most, isKept, result}
 use Rattle.kept.specs.Consistent.{Consistent}
 use Rattle.kept.specs.StartLaws.{kept-fresh}

@@ -15,7 +15,8 @@ use Rattle.kept.specs.CountedSetLaws.{counted-agree, bit-set, member-set
 use Rattle.kept.specs.Reading.{Node, Producer, Root, readingOf}
 use Rattle.kept.specs.Tables.{Tables, atomCount, nodeCount, rootCount, headAt}
 use Rattle.kept.specs.Evaluation.{Evaluation, truthAt, present, truthWord, held}
-use Rattle.kept.specs.Step.{withTruths, withWorklist, withSupport, withCandidate, withFalseRoots, entered, supportMoved, rootTurned, readerUpdated, readersUpdated}
+use Rattle.kept.specs.Parts.{withTruths, withWorklist, withSupport, withCandidate, withFalseRoots}
+use Rattle.kept.specs.Step.{entered, supportMoved, rootTurned, readerUpdated, readersUpdated}
 
 module _ (T : Tables) where
   pub held-agree : (v v′ w w′ : ℕ → Bool) (s s′ : ℕ → ℕ) (c c′ f f′ : ℕ → Bool)

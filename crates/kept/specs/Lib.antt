@@ -8,10 +8,15 @@ pub mod Readers
 pub mod Tables
 pub mod Evaluation
 pub mod Verdict
+pub mod Parts
 pub mod Step
+pub mod Start
 pub mod Walk
+pub mod Dirty
 pub mod Check
 pub mod Layout
+pub mod Candidate
+pub mod Tests
 pub mod Outcome
 pub mod Consistent
 pub mod HeldLaws

@@ -16,12 +16,15 @@ use Rattle.theory.specs.declared.Refusal.the-variants.{BadEntry}
 use Rattle.kept.specs.Tables.{Tables, nodeCount}
 use Rattle.kept.specs.Evaluation.{fresh}
 use Rattle.kept.specs.Verdict.{Verdict, stable}
-use Rattle.kept.specs.Walk.{ended, keptWalk, dirty}
+use Rattle.kept.specs.Dirty.{dirty}
+use Rattle.kept.specs.Walk.{ended, keptWalk}
 use Rattle.kept.specs.Check.{most}
 use Rattle.kept.specs.CheckLaws.{changedAtoms}
 use Rattle.kept.specs.Layout.{ofWords, listed}
 use Rattle.kept.specs.Naming.{Right}
-use Rattle.kept.specs.Outcome.{Candidate, atomsOf, tests, Answer, accepted, refused, outcome}
+use Rattle.kept.specs.Candidate.{Candidate, atomsOf}
+use Rattle.kept.specs.Tests.{tests}
+use Rattle.kept.specs.Outcome.{Answer, accepted, refused, outcome}
 
 abbrev pub isAccepted : Answer → Bool
 isAccepted (accepted v n) = true

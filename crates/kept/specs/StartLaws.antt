@@ -30,7 +30,9 @@ use Rattle.kept.specs.Readers.{isAtomOf, atomNodesOf}
 use Rattle.kept.specs.Tables.{Tables, atomCount, nodeCount, atomNodesAt}
 use Rattle.kept.specs.Evaluation.{Evaluation, present, held, truth, support, falseRoot, summary, fresh}
 use Rattle.kept.specs.Step.{entered}
-use Rattle.kept.specs.Walk.{allEntered, atomTurned, atomUpdated, walkStart, ended, broken, walkFrom, keptWalk, touchedNode, touched, dirty}
+use Rattle.kept.specs.Start.{allEntered, atomTurned, atomUpdated, walkStart}
+use Rattle.kept.specs.Dirty.{touchedNode, touched, dirty}
+use Rattle.kept.specs.Walk.{ended, broken, walkFrom, keptWalk}
 use Rattle.kept.specs.Consistent.{Consistent, atomNodesIn, atom-lower}
 use Rattle.kept.specs.HeldLaws.{held-agree, worklist-agree, present-held, candidate-held, entered-held}
 use Rattle.kept.specs.WalkLaws.{midway, midway-start, walk-midway}

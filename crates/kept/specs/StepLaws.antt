@@ -21,7 +21,8 @@ use Rattle.kept.specs.CountedSet.{andThen, withMember, at, lookup}
 use Rattle.kept.specs.CountedSetLaws.{unlike-false, unlike-true, member-set, lookup-at}
 use Rattle.kept.specs.Tables.{Tables, nodeCount, operandsAt, sound, readersAt}
 use Rattle.kept.specs.Evaluation.{Evaluation, truthAt, present, truthWord, held, truth, support, falseRoot, summary}
-use Rattle.kept.specs.Step.{withTruths, readersUpdated, took, tookAt, settled, settledFrom, seen, stepAt, step}
+use Rattle.kept.specs.Parts.{withTruths}
+use Rattle.kept.specs.Step.{readersUpdated, took, tookAt, settled, settledFrom, seen, stepAt, step}
 use Rattle.kept.specs.Consistent.{Consistent, operands-lower, atom-lower}
 use Rattle.kept.specs.HeldLaws.{worklist-agree, truth-held, present-held, truths-held}
 use Rattle.kept.specs.ReaderLaws.{among, readers-told}

@@ -25,7 +25,8 @@ use Rattle.words.specs.SetLaws.{member-past}
 use Rattle.words.specs.Next.{next}
 use Rattle.words.specs.NextLaws.{next-is}
 use Rattle.kept.specs.Tables.{Tables, atomCount}
-use Rattle.kept.specs.Outcome.{Candidate, listedWords, atomsOf, Buffer, buffers, firstShort, stamps, strayBit, tests}
+use Rattle.kept.specs.Candidate.{Candidate, listedWords, atomsOf}
+use Rattle.kept.specs.Tests.{Buffer, buffers, firstShort, stamps, strayBit, tests}
 
 -- ---- no 17
 

@@ -24,7 +24,8 @@ use Rattle.kept.specs.Readers.{occurrences}
 use Rattle.kept.specs.Tables.{Tables, atomCount, nodeCount, rootAt, headAt, bodyAt, operandsAt}
 use Rattle.kept.specs.Evaluation.{Evaluation, held, truth, bodyTrue, supports, support, falseRoot, summary, fresh}
 use Rattle.kept.specs.Step.{idle, took, stepAt, step}
-use Rattle.kept.specs.Walk.{ended, walk, touchedNode, touched, flips, dirty}
+use Rattle.kept.specs.Dirty.{touchedNode, touched, flips, dirty}
+use Rattle.kept.specs.Walk.{ended, walk}
 use Rattle.kept.specs.Consistent.{Consistent, operands-lower}
 use Rattle.kept.specs.HeldLaws.{held-agree}
 use Rattle.kept.specs.ReaderLaws.{among}

@@ -21,14 +21,17 @@ use Rattle.kept.specs.Tables.{Tables, atomCount, nodeCount, rootCount, rootAt, 
 use Rattle.words.specs.Next.{next}
 use Rattle.kept.specs.Evaluation.{Evaluation}
 use Rattle.kept.specs.Verdict.{Verdict, verdictOf}
-use Rattle.kept.specs.Walk.{Walked, ended, broken, walkStart, walkFrom, keptWalk}
+use Rattle.kept.specs.Start.{walkStart}
+use Rattle.kept.specs.Walk.{Walked, ended, broken, walkFrom, keptWalk}
 use Rattle.kept.specs.Check as check
 use Rattle.kept.specs.Check.{entry, nodeEntry, producerEntry, rootEntry, tablesAdmission, freshResult, keptResult, isKept, result}
 use Rattle.kept.specs.Layout.{image, section, ofWords, written, used, listed}
 use Rattle.kept.specs.LayoutLaws.{Fits, room, section-rest, behind-image, length-image, length-unused, fits-of, fits-fresh}
 use Rattle.kept_laws.specs.FitsLaws.{start-fits}
 use Rattle.kept_laws.specs.WalkEnds.{clear-none, Rises, walk-ends}
-use Rattle.kept.specs.Outcome.{Candidate, atomsOf, tests, accepted, refused, Outcome, cleared, concluded, outcomeAt, outcome}
+use Rattle.kept.specs.Candidate.{Candidate, atomsOf}
+use Rattle.kept.specs.Tests.{tests}
+use Rattle.kept.specs.Outcome.{accepted, refused, Outcome, cleared, concluded, outcomeAt, outcome}
 use Rattle.kept.specs.TestLaws.{lent-long}
 
 module _ (T : Tables) where

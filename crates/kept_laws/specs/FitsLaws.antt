@@ -17,8 +17,9 @@ use Rattle.kept.specs.CountedSet.{andThen, CountedSet, moved, withBit, withMemb
 use Rattle.kept.specs.Reading.{Reading, Node, Producer, Root, Unknown, readingOf}
 use Rattle.kept.specs.Tables.{Tables, atomCount, nodeCount, rootCount, headAt, sound, readersAt, atomNodesAt}
 use Rattle.kept.specs.Evaluation.{Evaluation, truthAt, present, truthWord}
-use Rattle.kept.specs.Step.{withTruths, withWorklist, withSupport, withCandidate, withFalseRoots, entered, supportMoved, rootTurned, readerUpdated, readersUpdated, took, fault, tookAt, settled, settledFrom, seen, stepAt, step}
-use Rattle.kept.specs.Walk.{allEntered, atomTurned, atomUpdated, walkStart}
+use Rattle.kept.specs.Parts.{withTruths, withWorklist, withSupport, withCandidate, withFalseRoots}
+use Rattle.kept.specs.Step.{entered, supportMoved, rootTurned, readerUpdated, readersUpdated, took, fault, tookAt, settled, settledFrom, seen, stepAt, step}
+use Rattle.kept.specs.Start.{allEntered, atomTurned, atomUpdated, walkStart}
 use Rattle.kept.specs.LayoutLaws.{Fits}
 
 length-bit : (ws : List ℕ) (i : ℕ) (x : Bool) → length (withBit ws i x) ≡ length ws

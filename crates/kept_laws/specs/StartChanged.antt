@@ -18,8 +18,9 @@ use Rattle.kept_laws.specs.OptionLaws.{some-is, if-some, then-some}
 use Rattle.kept.specs.CountedSet.{andThen, withBit, withMember}
 use Rattle.kept.specs.Tables.{Tables, atomCount, nodeCount, atomNodesAt}
 use Rattle.kept.specs.Evaluation.{Evaluation, present}
-use Rattle.kept.specs.Step.{withWorklist, withCandidate, entered}
-use Rattle.kept.specs.Walk.{allEntered, atomTurned, walkStart}
+use Rattle.kept.specs.Parts.{withWorklist, withCandidate}
+use Rattle.kept.specs.Step.{entered}
+use Rattle.kept.specs.Start.{allEntered, atomTurned, walkStart}
 use Rattle.kept.specs.LayoutLaws.{Fits}
 use Rattle.kept_laws.specs.FitsLaws.{atom-fits}
 use Rattle.kept_laws.specs.StartFrom.{startFrom, start-from, start-jump, start-turn}

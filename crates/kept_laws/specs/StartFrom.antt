@@ -12,7 +12,7 @@ use Rattle.words.specs.Changed.{unlike}
 use Rattle.kept.specs.CountedSet.{andThen}
 use Rattle.kept.specs.Tables.{Tables}
 use Rattle.kept.specs.Evaluation.{Evaluation, present}
-use Rattle.kept.specs.Walk.{atomTurned, atomUpdated, walkStart}
+use Rattle.kept.specs.Start.{atomTurned, atomUpdated, walkStart}
 
 module _ (T : Tables) (J : Interpretation) where
   unfoldable pub startFrom : ℕ → ℕ → Evaluation → Option Evaluation

@@ -11,7 +11,7 @@ use Rattle.kept.specs.SetOf.{words32}
 use Rattle.kept.specs.CountedSet.{CountedSet}
 use Rattle.kept.specs.Tables.{Tables, atomCount, nodeCount, rootCount}
 use Rattle.kept.specs.Evaluation.{Evaluation, support}
-use Rattle.kept.specs.Step.{withTruths, withWorklist, withSupport, withCandidate, withFalseRoots}
+use Rattle.kept.specs.Parts.{withTruths, withWorklist, withSupport, withCandidate, withFalseRoots}
 use Rattle.kept.specs.Layout.{flat, parts, image, truthsStart, worklistStart, supportStart, candidateStart, missingStart, falseRootsStart, used}
 use Rattle.kept.specs.LayoutLaws.{Fits}
 

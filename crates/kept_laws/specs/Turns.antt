@@ -19,7 +19,8 @@ use Rattle.kept.specs.Tables.{Tables, nodeCount}
 use Rattle.kept.specs.Evaluation.{Evaluation}
 use Rattle.kept.specs.Verdict.{verdictOf}
 use Rattle.kept.specs.Step.{entered, readerUpdated, readersUpdated, idle, took, fault, step}
-use Rattle.kept.specs.Walk.{allEntered, Walked, ended, broken, after, walk}
+use Rattle.kept.specs.Start.{allEntered}
+use Rattle.kept.specs.Walk.{Walked, ended, broken, after, walk}
 use Rattle.kept.specs.Check.{Result, refused, concluded, keptResult}
 use Rattle.kept_laws.specs.WalkEnds.{Clear, walk-on}
 

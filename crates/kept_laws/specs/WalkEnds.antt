@@ -23,7 +23,8 @@ use Rattle.kept.specs.CountedSetLaws.{unlike-false}
 use Rattle.kept.specs.Reading.{Reading, Node, Producer, Root, Unknown, readingOf}
 use Rattle.kept.specs.Tables.{Tables, atomCount, nodeCount, rootCount, headAt, sound, readersAt}
 use Rattle.kept.specs.Evaluation.{Evaluation, truthAt, present, truthWord}
-use Rattle.kept.specs.Step.{withTruths, withWorklist, withSupport, withFalseRoots, entered, supportMoved, rootTurned, readerUpdated, readersUpdated, Stepped, idle, took, fault, tookAt, settled, settledFrom, seen, stepAt, step}
+use Rattle.kept.specs.Parts.{withTruths, withWorklist, withSupport, withFalseRoots}
+use Rattle.kept.specs.Step.{entered, supportMoved, rootTurned, readerUpdated, readersUpdated, Stepped, idle, took, fault, tookAt, settled, settledFrom, seen, stepAt, step}
 use Rattle.kept.specs.Walk.{Walked, ended, broken, after, onward, walk}
 use Rattle.kept.specs.LayoutLaws.{Fits}
 use Rattle.kept_laws.specs.FitsLaws.{length-members, reader-fits, settled-cases, Taken, taken}
