@@ -22,7 +22,7 @@ use Rattle.kept.specs.Step.{entered, supportMoved, rootTurned, readerUpdated, r
 use Rattle.kept.specs.Start.{allEntered, atomTurned, atomUpdated, walkStart}
 use Rattle.kept.specs.LayoutLaws.{Fits}
 
-length-bit : (ws : List ℕ) (i : ℕ) (x : Bool) → length (withBit ws i x) ≡ length ws
+pub length-bit : (ws : List ℕ) (i : ℕ) (x : Bool) → length (withBit ws i x) ≡ length ws
 unfolding withBit
 length-bit ws i true = length-inserted 32 ws i
 length-bit ws i false = length-removed 32 ws i
@@ -43,23 +43,23 @@ length-members n s i x r e = go (unlike (member 32 (s .members) i) x) e
 module _ (T : Tables) where
   -- ---- one part replaced by one as long
 
-  truths-fit : (e : Evaluation) (k v : ℕ) → Fits T e → Fits T (withTruths e (set (e .truths) k v))
+  pub truths-fit : (e : Evaluation) (k v : ℕ) → Fits T e → Fits T (withTruths e (set (e .truths) k v))
   truths-fit e k v f =
       record { truths = length-set (e .truths) k v ∙ f .truths; worklist = f .worklist; support = f .support; candidate = f .candidate; missing = f .missing; falseRoots = f .falseRoots }
 
-  worklist-fits : (e : Evaluation) (w : CountedSet) → length (w .members) ≡ length (e .worklist .members) → Fits T e → Fits T (withWorklist e w)
+  pub worklist-fits : (e : Evaluation) (w : CountedSet) → length (w .members) ≡ length (e .worklist .members) → Fits T e → Fits T (withWorklist e w)
   worklist-fits e w l f =
       record { truths = f .truths; worklist = l ∙ f .worklist; support = f .support; candidate = f .candidate; missing = f .missing; falseRoots = f .falseRoots }
 
-  support-fits : (e : Evaluation) (a v : ℕ) (m : CountedSet) → length (m .members) ≡ length (e .missing .members) → Fits T e → Fits T (withSupport e (set (e .support) a v) m)
+  pub support-fits : (e : Evaluation) (a v : ℕ) (m : CountedSet) → length (m .members) ≡ length (e .missing .members) → Fits T e → Fits T (withSupport e (set (e .support) a v) m)
   support-fits e a v m l f =
       record { truths = f .truths; worklist = f .worklist; support = length-set (e .support) a v ∙ f .support; candidate = f .candidate; missing = l ∙ f .missing; falseRoots = f .falseRoots }
 
-  candidate-fits : (e : Evaluation) (a : ℕ) (x : Bool) (m : CountedSet) → length (m .members) ≡ length (e .missing .members) → Fits T e → Fits T (withCandidate e (withBit (e .candidate) a x) m)
+  pub candidate-fits : (e : Evaluation) (a : ℕ) (x : Bool) (m : CountedSet) → length (m .members) ≡ length (e .missing .members) → Fits T e → Fits T (withCandidate e (withBit (e .candidate) a x) m)
   candidate-fits e a x m l f =
       record { truths = f .truths; worklist = f .worklist; support = f .support; candidate = length-bit (e .candidate) a x ∙ f .candidate; missing = l ∙ f .missing; falseRoots = f .falseRoots }
 
-  roots-fit : (e : Evaluation) (r : CountedSet) → length (r .members) ≡ length (e .falseRoots .members) → Fits T e → Fits T (withFalseRoots e r)
+  pub roots-fit : (e : Evaluation) (r : CountedSet) → length (r .members) ≡ length (e .falseRoots .members) → Fits T e → Fits T (withFalseRoots e r)
   roots-fit e r l f =
       record { truths = f .truths; worklist = f .worklist; support = f .support; candidate = f .candidate; missing = f .missing; falseRoots = l ∙ f .falseRoots }
 

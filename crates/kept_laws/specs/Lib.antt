@@ -1,5 +1,6 @@
 pub mod Stores
 pub mod OptionLaws
+pub mod Exits
 pub mod FitsLaws
 pub mod WalkEnds
 pub mod StartFrom
