@@ -1,0 +1,78 @@
+-- One step of a kept check: the lowest node on the worklist gets its truth, and if that changed its readers are told.
+-- Assumes nothing.
+use Prim.Native.Nat.{ℕ}
+use mathlib.Core.Bool.{Bool, true, false, not, cond, _&&_}
+use mathlib.Core.List.{List, [], _∷_}
+use mathlib.Core.Option.{Option, some, none}
+use lib.Dec.{eqb, ltb}
+use lib.ListN.{getD, set}
+use Rattle.theory.specs.Node.{nodeAt}
+use Rattle.theory.specs.NodeTruth.{nodeTruth}
+use Rattle.words.specs.Changed.{unlike}
+use Rattle.kept.specs.CountedSet.{andThen, CountedSet, moved, withMember, Lookup, empty, astray, at, lookup}
+use Rattle.kept.specs.Reading.{Reading, Node, Producer, Root, Unknown, readingOf}
+use Rattle.kept.specs.Tables.{Tables, atomCount, nodeCount, rootCount, headAt, sound, readersAt}
+use Rattle.kept.specs.Evaluation.{Evaluation, truthAt, present, truthWord}
+use Rattle.kept.specs.Parts.{withTruths, withWorklist, withSupport, withFalseRoots}
+
+-- ---- what a reader of node k does when k has become t; none: an index or a count would leave its range
+
+-- node m onto the worklist
+unfoldable pub entered : Tables → ℕ → Evaluation → Option Evaluation
+entered T m e = andThen (withMember (nodeCount T) (e .worklist) m true) (λ w. some (withWorklist e w))
+
+-- a producer of atom a: one more or less with a true body
+unfoldable pub supportMoved : Tables → Bool → ℕ → Evaluation → Option Evaluation
+supportMoved T t a e =
+    andThen (moved (T .made) t (getD (e .support) a 0)) (λ n.
+    andThen (withMember (atomCount T) (e .missing) a (present e a && eqb n 0)) (λ m. some (withSupport e (set (e .support) a n) m)))
+
+-- root position r
+unfoldable pub rootTurned : Tables → Bool → ℕ → Evaluation → Option Evaluation
+rootTurned T t r e = andThen (withMember (rootCount T) (e .falseRoots) r (not t)) (λ f. some (withFalseRoots e f))
+
+unfoldable pub readerUpdated : Tables → ℕ → Bool → Evaluation → Reading → Option Evaluation
+readerUpdated T k t e (Node m) = cond (ltb k m && ltb m (nodeCount T)) (entered T m e) none
+readerUpdated T k t e (Producer p) = cond (ltb p (T .made) && ltb (headAt T p) (atomCount T)) (supportMoved T t (headAt T p) e) none
+readerUpdated T k t e (Root r) = cond (ltb r (rootCount T)) (rootTurned T t r e) none
+readerUpdated T k t e Unknown = none
+
+-- one after the other
+unfoldable pub readersUpdated : Tables → ℕ → Bool → Evaluation → List ℕ → Option Evaluation
+readersUpdated T k t e [] = some e
+readersUpdated T k t e (x ∷ xs) = andThen (readerUpdated T k t e (readingOf x)) (λ d. readersUpdated T k t d xs)
+
+-- ---- the step
+
+-- nothing was on the worklist; node k was gone over; or 17, at a place
+pub data Stepped : Type 0 where
+  idle : Stepped
+  took : ℕ → Evaluation → Stepped
+  fault : ℕ → Stepped
+
+abbrev pub tookAt : ℕ → Option Evaluation → Stepped
+tookAt k none = fault k
+tookAt k (some e) = took k e
+
+-- node k, off the worklist, becomes t
+unfoldable pub settled : Tables → ℕ → Bool → Evaluation → Stepped
+settled T k t e =
+    cond (unlike (truthAt e k) t)
+    (tookAt k (andThen (readersAt T k) (readersUpdated T k t (withTruths e (set (e .truths) k (truthWord t))))))
+    (took k e)
+
+-- the truth of node k by the evaluation
+unfoldable pub seen : Tables → Evaluation → ℕ → Bool
+seen T e k = nodeTruth (present e) (T .operands) (truthAt e) (nodeAt (T .nodes) k)
+
+abbrev pub settledFrom : Tables → ℕ → Bool → Evaluation → Option CountedSet → Stepped
+settledFrom T k t e none = fault k
+settledFrom T k t e (some w) = settled T k t (withWorklist e w)
+
+unfoldable pub stepAt : Tables → Evaluation → Lookup → Stepped
+stepAt T e empty = idle
+stepAt T e astray = fault 0
+stepAt T e (at k) = cond (sound T k) (settledFrom T k (seen T e k) e (withMember (nodeCount T) (e .worklist) k false)) (fault k)
+
+unfoldable pub step : Tables → Evaluation → Stepped
+step T e = stepAt T e (lookup (nodeCount T) (e .worklist))

@@ -1,0 +1,117 @@
+-- One step on an evaluation that summarises its truths.
+-- Assumes nothing.
+use Prim.Native.Nat.{ℕ, _<_}
+use native.Mathlib.Omega.{arith}
+use mathlib.Core.Path.{_≡_, refl, ap, ap₂, sym, _∙_, fun-ext}
+use mathlib.Core.Bool.{Bool, true, false, not, cond, _&&_, _||_, or-false}
+use mathlib.Core.List.{List}
+use lib.Dec.{ltb}
+use lib.ListN.{set}
+use borrow.Author.Tests.{lt-ltb}
+use Rattle.base.specs.Each.{Each, each-map, map-agree}
+use Rattle.base.specs.Rising.{rising-step}
+use Rattle.formula.specs.Satisfaction.{Interpretation}
+use Rattle.theory.specs.Node.{nodeAt, span, operandsOf}
+use Rattle.theory.specs.NodeTruth.{allTrue, anyTrue, nodeTruth, nodeTruths}
+use Rattle.theory.specs.declared.Node.{Node}
+use Rattle.theory.specs.declared.Node.the-variants.{Atom, False, Implies, And, Or, Unknown}
+use Rattle.words.specs.Changed.{unlike}
+use Rattle.kept.specs.Tabulate.{updated, updated-same}
+use Rattle.kept.specs.CountedSet.{andThen, withMember, at, lookup}
+use Rattle.kept.specs.CountedSetLaws.{unlike-false, unlike-true, member-set, lookup-at}
+use Rattle.kept.specs.Tables.{Tables, nodeCount, operandsAt, sound, readersAt}
+use Rattle.kept.specs.Evaluation.{Evaluation, truthAt, present, truthWord, held, truth, support, falseRoot, summary}
+use Rattle.kept.specs.Parts.{withTruths}
+use Rattle.kept.specs.Step.{readersUpdated, took, tookAt, settled, settledFrom, seen, stepAt, step}
+use Rattle.kept.specs.Consistent.{Consistent, operands-lower, atom-lower}
+use Rattle.kept.specs.HeldLaws.{worklist-agree, truth-held, present-held, truths-held}
+use Rattle.kept.specs.ReaderLaws.{among, readers-told}
+
+-- ---- a node's truth goes by its atom, or by the truth of its operands
+
+node-agree : (I J : Interpretation) (operands : List ℕ) (f g : ℕ → Bool) (node : Node) → ((a : ℕ) → node ≡ Atom a → I a ≡ J a)
+    → Each (λ o. f o ≡ g o) (operandsOf operands node) → nodeTruth I operands f node ≡ nodeTruth J operands g node
+unfolding nodeTruth operandsOf
+node-agree I J operands f g (Atom a) h e = h a refl
+node-agree I J operands f g False h e = refl
+node-agree I J operands f g (Implies l r) h e = ap₂ (λ x y. not x || y) (e .0) (e .1 .0)
+node-agree I J operands f g (And s c) h e = ap allTrue (map-agree (λ o. f o ≡ g o) f g (span operands s c) e (λ o p. p))
+node-agree I J operands f g (Or s c) h e = ap anyTrue (map-agree (λ o. f o ≡ g o) f g (span operands s c) e (λ o p. p))
+node-agree I J operands f g Unknown h e = refl
+
+-- the truth of node k by the truth v of lower nodes and the candidate I
+abbrev pub truthBy : Tables → Interpretation → (ℕ → Bool) → ℕ → Bool
+truthBy T I v k = nodeTruth I (T .operands) v (nodeAt (T .nodes) k)
+
+pub truth-agree : (T : Tables) (I J : Interpretation) (f g : ℕ → Bool) (k : ℕ) → ((a : ℕ) → nodeAt (T .nodes) k ≡ Atom a → I a ≡ J a)
+    → Each (λ o. f o ≡ g o) (operandsAt T k) → truthBy T I f k ≡ truthBy T J g k
+unfolding operandsAt
+truth-agree T I J f g k h e = node-agree I J (T .operands) f g (nodeAt (T .nodes) k) h e
+
+-- of a sound node, by those below it
+pub truth-lower : (T : Tables) (I : Interpretation) (f g : ℕ → Bool) (k : ℕ) → sound T k ≡ true → ((o : ℕ) → o < k → f o ≡ g o) → truthBy T I f k ≡ truthBy T I g k
+truth-lower T I f g k s h = truth-agree T I I f g k (λ a e. refl) (each-map (λ o. o < k) (λ o. f o ≡ g o) (operandsAt T k) h (operands-lower T k s))
+
+-- the truth of a sound node meets its equation
+pub truth-step : (T : Tables) (I : Interpretation) (k : ℕ) → k < nodeCount T → sound T k ≡ true → truth T I k ≡ truthBy T I (truth T I) k
+unfolding truth nodeTruths
+truth-step T I k l s = rising-step false (truthBy T I) (nodeCount T) k l (λ f g h. truth-lower T I f g k s h)
+
+-- the worklist after node k has become t
+unfoldable pub workAfter : Tables → (ℕ → Bool) → (ℕ → Bool) → ℕ → Bool → ℕ → Bool
+workAfter T v w k t j = updated w k false j || unlike (v k) t && among k (operandsAt T j)
+
+module _ (T : Tables) (good : Consistent T) (v w c : ℕ → Bool) where
+  abbrev start : Evaluation
+  start = held T v w (support T v) c (falseRoot T v)
+
+  -- what the evaluation shows of a node is its truth by the functions it holds
+  seen-held : (k : ℕ) → k < nodeCount T → seen T start k ≡ truthBy T c v k
+  unfolding seen
+  seen-held k l =
+      truth-agree T (present start) c (truthAt start) v k
+      (λ a i. present-held T v w (support T v) c (falseRoot T v) a (atom-lower T k a (good .node k l) i))
+      (each-map (λ o. o < k) (λ o. truthAt start o ≡ v o) (operandsAt T k) (λ o i. truth-held T v w (support T v) c (falseRoot T v) o (omega arith)) (operands-lower T k (good .node k l)))
+
+  settled-held : (k : ℕ) (t : Bool) → k < nodeCount T
+      → settled T k t (held T v (updated w k false) (support T v) c (falseRoot T v)) ≡ took k (summary T (updated v k t) (workAfter T v w k t) c)
+  unfolding settled summary workAfter
+  settled-held k t l = rw (truth-held T v off (support T v) c (falseRoot T v) k l) (go (unlike (v k) t) refl)
+    where
+      off : ℕ → Bool
+      off = updated w k false
+
+      u : ℕ → Bool
+      u = updated v k t
+
+      old : Evaluation
+      old = held T v off (support T v) c (falseRoot T v)
+
+      go : (b : Bool) → unlike (v k) t ≡ b
+          → cond b (tookAt k (andThen (readersAt T k) (readersUpdated T k t (withTruths old (set (old .truths) k (truthWord t)))))) (took k old)
+          ≡ took k (held T u (λ j. off j || b && among k (operandsAt T j)) (support T u) c (falseRoot T u))
+      go true e =
+          rw (good .readers k l, truths-held T v off (support T v) c (falseRoot T v) k t, readers-told T good k t v (unlike-true (v k) t e) off c)
+          (ap (took k) (worklist-agree T u (λ j. off j || ltb j (nodeCount T) && among k (operandsAt T j)) (λ j. off j || true && among k (operandsAt T j)) (support T u) c (falseRoot T u)
+          (λ j i. rw (lt-ltb j (nodeCount T) i))))
+      go false e =
+          let same : u ≡ v = fun-ext (updated-same v k t (unlike-false (v k) t e)) in
+          rw same (ap (took k) (worklist-agree T v off (λ j. off j || false && among k (operandsAt T j)) (support T v) c (falseRoot T v) (λ j i. sym (or-false (off j)))))
+
+  -- node k is found, and taken off the worklist
+  found-held : (k : ℕ) → k < nodeCount T → w k ≡ true → ((j : ℕ) → j < k → w j ≡ false) → lookup (nodeCount T) (start .worklist) ≡ at k
+  unfolding held
+  found-held k l m h = lookup-at w (nodeCount T) k l m h
+
+  off-held : (k : ℕ) (t : Bool) → k < nodeCount T
+      → settledFrom T k t start (withMember (nodeCount T) (start .worklist) k false) ≡ settled T k t (held T v (updated w k false) (support T v) c (falseRoot T v))
+  unfolding held
+  off-held k t l = rw (member-set w (nodeCount T) k false l)
+
+  -- a step takes the lowest node of the worklist and gives it its truth
+  pub step-summary : (k : ℕ) → k < nodeCount T → w k ≡ true → ((j : ℕ) → j < k → w j ≡ false)
+      → step T (summary T v w c) ≡ took k (summary T (updated v k (truthBy T c v k)) (workAfter T v w k (truthBy T c v k)) c)
+  unfolding step stepAt summary
+  step-summary k l m h =
+      ap (stepAt T start) (found-held k l m h)
+      ∙ rw (good .node k l, seen-held k l) (off-held k (truthBy T c v k) l ∙ settled-held k (truthBy T c v k) l)

@@ -1,0 +1,10 @@
+pub mod Stores
+pub mod OptionLaws
+pub mod Exits
+pub mod FitsLaws
+pub mod WalkEnds
+pub mod StartFrom
+pub mod StartChanged
+pub mod Filling
+pub mod Halves
+pub mod Turns

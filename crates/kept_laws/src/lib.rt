@@ -1,0 +1,1 @@
+// No code: what the loops of a check keep, and what holds of a check on any words.
