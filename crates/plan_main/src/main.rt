@@ -119,55 +119,62 @@ fn show_lists(table: &[u64], n: usize) {
     }
 }
 
-// The theory planned, or planned again with proposed ranks if there are any.
-fn show_plan(
-    counts: Counts,
-    nodes: &[u32],
-    operands: &[u32],
-    roots: &[u32],
-    proposed: &[u32],
-    given: bool,
-) {
-    let mut producers = [0u32; 16];
-    let mut ranks = [0u32; 8];
-    let mut table = [0u64; 64];
-    let mut work = [0u32; 160];
-    let planning = if given {
-        plan::certify(
-            counts,
-            nodes,
-            operands,
-            roots,
-            proposed,
-            &mut producers,
-            &mut ranks,
-            &mut table,
-            &mut work,
-        )
-    } else {
-        plan::plan(
-            counts,
-            nodes,
-            operands,
-            roots,
-            &mut producers,
-            &mut ranks,
-            &mut table,
-            &mut work,
-        )
-    };
+fn show(planning: Planning, counts: Counts, producers: &[u32], ranks: &[u32], table: &[u64]) {
     match planning {
         Planning::Planned(p) => {
             io::write_all(1, b"producers");
             put(p);
             end_line();
-            show_words(&producers, 16);
+            show_words(producers, 16);
             io::write_all(1, b"ranks");
-            show_words(&ranks, counts.atoms);
-            show_lists(&table, counts.nodes);
+            show_words(ranks, counts.atoms);
+            show_lists(table, counts.nodes);
         }
         Planning::Refused(r) => show_refused(r),
     }
+}
+
+fn show_plan(counts: Counts, nodes: &[u32], operands: &[u32], roots: &[u32]) {
+    let mut producers = [0u32; 16];
+    let mut ranks = [0u32; 8];
+    let mut table = [0u64; 64];
+    let mut work = [0u32; 160];
+    let planning = plan::plan(
+        counts,
+        nodes,
+        operands,
+        roots,
+        &mut producers,
+        &mut ranks,
+        &mut table,
+        &mut work,
+    );
+    show(planning, counts, &producers, &ranks, &table);
+}
+
+fn show_certified(
+    counts: Counts,
+    nodes: &[u32],
+    operands: &[u32],
+    roots: &[u32],
+    proposed: &[u32],
+) {
+    let mut producers = [0u32; 16];
+    let mut ranks = [0u32; 8];
+    let mut table = [0u64; 64];
+    let mut work = [0u32; 160];
+    let planning = plan::certify(
+        counts,
+        nodes,
+        operands,
+        roots,
+        proposed,
+        &mut producers,
+        &mut ranks,
+        &mut table,
+        &mut work,
+    );
+    show(planning, counts, &producers, &ranks, &table);
 }
 
 fn counts(atoms: usize, nodes: usize, operands: usize, roots: usize) -> Counts {
@@ -185,57 +192,28 @@ fn main() {
     let drawn = [0u32, 0, 0, 0, 1, 0, 2, 0, 1, 1, 0, 0, 2, 0, 3, 4, 0, 2];
     let operands = [0u32, 4];
     let roots = [5u32, 2];
-    let none = [0u32; 1];
-    show_plan(counts(2, 6, 2, 2), &drawn, &operands, &roots, &none, false);
+    show_plan(counts(2, 6, 2, 2), &drawn, &operands, &roots);
     let rising = [0u32, 1];
-    show_plan(counts(2, 6, 2, 2), &drawn, &operands, &roots, &rising, true);
+    show_certified(counts(2, 6, 2, 2), &drawn, &operands, &roots, &rising);
     let high = [0u32, 2];
-    show_plan(counts(2, 6, 2, 2), &drawn, &operands, &roots, &high, true);
+    show_certified(counts(2, 6, 2, 2), &drawn, &operands, &roots, &high);
     let level = [0u32, 0];
-    show_plan(counts(2, 6, 2, 2), &drawn, &operands, &roots, &level, true);
+    show_certified(counts(2, 6, 2, 2), &drawn, &operands, &roots, &level);
     // C5: 1 from 2, 2 from 1, 0 from 1.
     let five = [0u32, 0, 0, 0, 1, 0, 0, 2, 0, 2, 2, 1, 2, 1, 2, 2, 1, 0];
     let five_roots = [3u32, 4, 5];
-    show_plan(
-        counts(3, 6, 0, 3),
-        &five,
-        &operands,
-        &five_roots,
-        &none,
-        false,
-    );
+    show_plan(counts(3, 6, 0, 3), &five, &operands, &five_roots);
     // C6: an Implies as body.
     let six = [0u32, 0, 0, 0, 1, 0, 2, 0, 1, 0, 2, 0, 2, 2, 3];
     let six_roots = [4u32];
-    show_plan(
-        counts(3, 5, 0, 1),
-        &six,
-        &operands,
-        &six_roots,
-        &none,
-        false,
-    );
+    show_plan(counts(3, 5, 0, 1), &six, &operands, &six_roots);
     // An And as root; And(0, 0) as body, listed twice.
     let group = [0u32, 0, 0, 0, 1, 0, 3, 0, 2];
     let pair = [0u32, 1];
     let group_roots = [2u32];
-    show_plan(
-        counts(2, 3, 2, 1),
-        &group,
-        &pair,
-        &group_roots,
-        &none,
-        false,
-    );
+    show_plan(counts(2, 3, 2, 1), &group, &pair, &group_roots);
     let twice = [0u32, 0, 0, 0, 1, 0, 3, 0, 2, 2, 2, 1];
     let same = [0u32, 0];
     let twice_roots = [3u32];
-    show_plan(
-        counts(2, 4, 2, 1),
-        &twice,
-        &same,
-        &twice_roots,
-        &none,
-        false,
-    );
+    show_plan(counts(2, 4, 2, 1), &twice, &same, &twice_roots);
 }
