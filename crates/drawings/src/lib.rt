@@ -1,0 +1,1 @@
+// No code: document 01's drawings, worked out of the definitions.
