@@ -1,4 +1,4 @@
--- The tables of drawings: document 01's example, C5 and C6.
+-- The tables of drawings: document 01's example and C5 to C7.
 -- Assumes nothing.
 use Prim.Native.Nat.{ℕ}
 use mathlib.Core.List.{List, [], _∷_}
@@ -30,3 +30,10 @@ sixNodes = 0 ∷ 0 ∷ 0 ∷ 0 ∷ 1 ∷ 0 ∷ 2 ∷ 0 ∷ 1 ∷ 0 ∷ 2 ∷ 0 �
 
 unfoldable pub sixRoots : List ℕ
 sixRoots = 4 ∷ []
+
+-- atom 0 from its double negation: Atom 0, False, Implies(0, 1), Implies(2, 1), Implies(3, 0), root 4
+unfoldable pub sevenNodes : List ℕ
+sevenNodes = 0 ∷ 0 ∷ 0 ∷ 1 ∷ 0 ∷ 0 ∷ 2 ∷ 0 ∷ 1 ∷ 2 ∷ 2 ∷ 1 ∷ 2 ∷ 3 ∷ 0 ∷ []
+
+unfoldable pub sevenRoots : List ℕ
+sevenRoots = 4 ∷ []

@@ -1,3 +1,3 @@
 pub mod Walk
 pub mod Series
-pub mod Drawing
+pub mod Example

@@ -16,7 +16,8 @@ use Rattle.theory.specs.Spans.{all-below-each}
 use Rattle.theory.specs.declared.Counts.{Counts}
 use Rattle.theory.specs.declared.Node.{Node}
 use Rattle.theory.specs.declared.Node.the-variants.{Atom, False, Implies, And, Or, Unknown}
-use Rattle.kept.specs.Readers.{readersOf, atomNodesOf}
+use Rattle.readers.specs.Readers.{readersOf}
+use Rattle.readers.specs.AtomNodes.{atomNodesOf}
 use Rattle.kept.specs.Tables.{Tables, atomCount, nodeCount, rootCount, rootAt, headAt, bodyAt, operandsAt, soundNode, sound, readersAt, atomNodesAt}
 
 -- the readers of node k, as the planner lists them

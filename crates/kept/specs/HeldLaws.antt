@@ -8,11 +8,12 @@ use mathlib.Core.Option.{Option, some, none}
 use lib.Dec.{eqb}
 use lib.ListN.{getD, set}
 use borrow.Author.Tests.{lt-ltb}
+use Rattle.readers.specs.declared.Reading.the-variants.{Node, Producer, Root}
+use Rattle.readers.specs.Reader.{readingOf}
 use Rattle.kept.specs.Tabulate.{updated, updated-here, updated-there, updated-is, tabulate-at, tabulate-agree, tabulate-set}
 use Rattle.kept.specs.SetOfLaws.{member-below, setOf-agree}
 use Rattle.kept.specs.CountedSet.{andThen, withBit, withMember, moved}
 use Rattle.kept.specs.CountedSetLaws.{counted-agree, bit-set, member-set}
-use Rattle.kept.specs.Reading.{Node, Producer, Root, readingOf}
 use Rattle.kept.specs.Tables.{Tables, atomCount, nodeCount, rootCount, headAt}
 use Rattle.kept.specs.Evaluation.{Evaluation, truthAt, present, truthWord, held}
 use Rattle.kept.specs.Parts.{withTruths, withWorklist, withSupport, withCandidate, withFalseRoots}

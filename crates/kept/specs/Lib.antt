@@ -3,8 +3,6 @@ pub mod SetOf
 pub mod SetOfLaws
 pub mod CountedSet
 pub mod CountedSetLaws
-pub mod Reading
-pub mod Readers
 pub mod Tables
 pub mod Evaluation
 pub mod Verdict

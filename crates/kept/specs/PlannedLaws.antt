@@ -9,7 +9,7 @@ use lib.ListN.{length, getD, take, length-append, length-take}
 use lib.Seq.{getD-take}
 use borrow.Author.Tests.{lt-ltb, le-leb}
 use Rattle.base.specs.Tests.{both}
-use Rattle.base.specs.Each.{Each, each-at, at-each}
+use Rattle.base.specs.Each.{Each, each-at, at-each, each-append}
 use Rattle.theory.specs.Node.{nodeAt, span}
 use Rattle.theory.specs.WellFormed.{NodeFormed, NodeTables, WellFormed}
 use Rattle.theory.specs.Admission.{spanStart}
@@ -60,10 +60,6 @@ body-words (x ∷ ps) zero = refl
 body-words (x ∷ ps) (suc p) = let e : 4 * suc p + 1 ≡ suc (suc (suc (suc (4 * p + 1)))) = omega arith in rw e (body-words ps p)
 
 -- ---- the producers of roots
-
-each-append : {A : Type 0} (P : A → Type 0) (xs ys : List A) → Each P xs → Each P ys → Each P (xs ++ ys)
-each-append P [] ys h k = k
-each-append P (x ∷ xs) ys h k = (h .0, each-append P xs ys (h .1) k)
 
 module _ (t : Counts) (nodes operands classes : List ℕ) (tables : NodeTables t nodes operands) where
   -- the head is an atom, the body a node

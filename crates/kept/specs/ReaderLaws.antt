@@ -13,13 +13,14 @@ use borrow.Author.Tests.{eqb-true, eqb-false, eq-eqb, ne-eqb, lt-ltb, le-ltb}
 use Rattle.base.specs.Tests.{equal-or}
 use Rattle.base.specs.Each.{Each}
 use Rattle.base.specs.Places.{places, count, count-agree, count-most}
+use Rattle.readers.specs.Joined.{joined, joined-more}
+use Rattle.readers.specs.Reader.{nodeReader, producerReader, rootReader, readingOf, packed-read}
+use Rattle.readers.specs.Readers.{occurrences, readingNode, readersOf}
 use Rattle.kept.specs.PlaceLaws.{last-yes, last-no}
 use Rattle.kept.specs.Tabulate.{updated, updated-here, updated-there, updated-is, switched, switched-below, switched-from, switched-other}
 use Rattle.kept.specs.SetOfLaws.{ltb-suc}
 use Rattle.kept.specs.CountedSet.{andThen, moved}
 use Rattle.kept.specs.CountedSetLaws.{count-more}
-use Rattle.kept.specs.Reading.{nodeReader, producerReader, rootReader, readingOf, packed-read}
-use Rattle.kept.specs.Readers.{joined, joined-more, occurrences, readingNode, readersOf}
 use Rattle.kept.specs.Tables.{Tables, nodeCount, rootCount, rootAt, headAt, bodyAt, operandsAt}
 use Rattle.kept.specs.Evaluation.{Evaluation, held, bodyTrue, supports, support, falseRoot}
 use Rattle.kept.specs.Step.{readerUpdated, readersUpdated}

@@ -20,13 +20,13 @@ use Rattle.theory.specs.declared.Node.the-variants.{Atom, False, Implies, And, 
 use Rattle.words.specs.Changed.{unlike}
 use Rattle.words.specs.Sets.{member}
 use Rattle.words.specs.Next.{next}
+use Rattle.readers.specs.AtomNodes.{isAtomOf, atomNodesOf}
 use Rattle.kept.specs.PlaceLaws.{last-yes, last-no}
 use Rattle.kept.specs.Tabulate.{updated, updated-is, updated-same, switched, switched-below, switched-from, switched-next}
 use Rattle.kept.specs.SetOf.{setOf}
 use Rattle.kept.specs.SetOfLaws.{ltb-suc, member-above, length-setOf}
 use Rattle.kept.specs.CountedSet.{andThen}
 use Rattle.kept.specs.CountedSetLaws.{unlike-false}
-use Rattle.kept.specs.Readers.{isAtomOf, atomNodesOf}
 use Rattle.kept.specs.Tables.{Tables, atomCount, nodeCount, atomNodesAt}
 use Rattle.kept.specs.Evaluation.{Evaluation, present, held, truth, support, falseRoot, summary, fresh}
 use Rattle.kept.specs.Step.{entered}

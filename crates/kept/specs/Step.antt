@@ -9,8 +9,10 @@ use lib.ListN.{getD, set}
 use Rattle.theory.specs.Node.{nodeAt}
 use Rattle.theory.specs.NodeTruth.{nodeTruth}
 use Rattle.words.specs.Changed.{unlike}
+use Rattle.readers.specs.declared.Reading.{Reading}
+use Rattle.readers.specs.declared.Reading.the-variants.{Node, Producer, Root, Unknown}
+use Rattle.readers.specs.Reader.{readingOf}
 use Rattle.kept.specs.CountedSet.{andThen, CountedSet, moved, withMember, Lookup, empty, astray, at, lookup}
-use Rattle.kept.specs.Reading.{Reading, Node, Producer, Root, Unknown, readingOf}
 use Rattle.kept.specs.Tables.{Tables, atomCount, nodeCount, rootCount, headAt, sound, readersAt}
 use Rattle.kept.specs.Evaluation.{Evaluation, truthAt, present, truthWord}
 use Rattle.kept.specs.Parts.{withTruths, withWorklist, withSupport, withFalseRoots}

@@ -11,7 +11,8 @@ use Rattle.theory.specs.Node.{nodeAt, span, operandsOf}
 use Rattle.theory.specs.declared.Counts.{Counts}
 use Rattle.theory.specs.declared.Node.{Node}
 use Rattle.theory.specs.declared.Node.the-variants.{Atom, False, Implies, And, Or, Unknown}
-use Rattle.kept.specs.Readers.{readerWords, part}
+use Rattle.readers.specs.Laid.{part}
+use Rattle.readers.specs.ReaderTable.{readerWords}
 
 -- the plan's stamp, the number of producers, and the lent words
 pub record Tables : Type 0 where

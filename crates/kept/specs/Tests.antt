@@ -11,8 +11,8 @@ use Rattle.theory.specs.declared.Admission.{Admission}
 use Rattle.theory.specs.declared.Admission.the-variants.{Admitted, Refused}
 use Rattle.theory.specs.declared.Refusal.the-variants.{ShortBuffer, ForeignStamp, StrayBit}
 use Rattle.words.specs.Next.{next}
+use Rattle.readers.specs.ReaderTable.{readerWords}
 use Rattle.kept.specs.SetOf.{words64}
-use Rattle.kept.specs.Readers.{readerWords}
 use Rattle.kept.specs.Tables.{Tables, atomCount, nodeCount, rootCount}
 use Rattle.kept.specs.Layout.{listed}
 use Rattle.kept.specs.Candidate.{Candidate, listedWords}

@@ -17,10 +17,10 @@ use Rattle.theory.specs.Node.{nodeAt}
 use Rattle.theory.specs.NodeTruth.{anyTrue}
 use Rattle.theory.specs.declared.Node.the-variants.{Atom}
 use Rattle.words.specs.Changed.{unlike}
+use Rattle.readers.specs.Readers.{occurrences}
 use Rattle.kept.specs.Tabulate.{updated, updated-here, updated-there, updated-same, switched, switched-below, switched-from, switched-next}
 use Rattle.kept.specs.SetOfLaws.{ltb-suc}
 use Rattle.kept.specs.CountedSetLaws.{unlike-false, unlike-same, lookup-empty}
-use Rattle.kept.specs.Readers.{occurrences}
 use Rattle.kept.specs.Tables.{Tables, atomCount, nodeCount, rootAt, headAt, bodyAt, operandsAt}
 use Rattle.kept.specs.Evaluation.{Evaluation, held, truth, bodyTrue, supports, support, falseRoot, summary, fresh}
 use Rattle.kept.specs.Step.{idle, took, stepAt, step}

@@ -12,9 +12,9 @@ use lib.Dec.{ltb}
 use lib.ListN.{length, getD}
 use lib.Seq.{drop-cons}
 use Rattle.theory.specs.declared.Refusal.the-variants.{BadEntry}
+use Rattle.readers.specs.Reader.{readingOf}
+use Rattle.readers.specs.Laid.{part}
 use Rattle.kept.specs.CountedSet.{andThen}
-use Rattle.kept.specs.Reading.{readingOf}
-use Rattle.kept.specs.Readers.{part}
 use Rattle.kept.specs.Tables.{Tables, nodeCount}
 use Rattle.kept.specs.Evaluation.{Evaluation}
 use Rattle.kept.specs.Verdict.{verdictOf}

@@ -17,10 +17,12 @@ use Rattle.words.specs.Sets.{member}
 use Rattle.words.specs.SetLaws.{member-inserted, member-removed}
 use Rattle.words.specs.Next.{next}
 use Rattle.words.specs.NextLaws.{next-is}
+use Rattle.readers.specs.declared.Reading.{Reading}
+use Rattle.readers.specs.declared.Reading.the-variants.{Node, Producer, Root, Unknown}
+use Rattle.readers.specs.Reader.{readingOf}
 use Rattle.kept_laws.specs.OptionLaws.{some-is, if-some, then-some}
 use Rattle.kept.specs.CountedSet.{andThen, CountedSet, moved, withBit, withMember, empty, astray, at, lookup}
 use Rattle.kept.specs.CountedSetLaws.{unlike-false}
-use Rattle.kept.specs.Reading.{Reading, Node, Producer, Root, Unknown, readingOf}
 use Rattle.kept.specs.Tables.{Tables, atomCount, nodeCount, rootCount, headAt, sound, readersAt}
 use Rattle.kept.specs.Evaluation.{Evaluation, truthAt, present, truthWord}
 use Rattle.kept.specs.Parts.{withTruths, withWorklist, withSupport, withFalseRoots}

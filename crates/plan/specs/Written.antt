@@ -20,7 +20,7 @@ use Rattle.compile.specs.declared.Produced.the-variants.{Nothing, Made, Refused
 use Rattle.compile.proofs.RootFormula.{producer-bounded}
 use Rattle.readers.specs.Planned.{Planned}
 
-made-count : (nodes operands classes ks : List ℕ) → length (producers nodes operands classes ks) ≤ length ks
+pub made-count : (nodes operands classes ks : List ℕ) → length (producers nodes operands classes ks) ≤ length ks
 unfolding producers
 made-count nodes operands classes [] = omega arith
 made-count nodes operands classes (k ∷ ks) =

@@ -1,4 +1,4 @@
--- Document 01's drawing: the lines of its checks C1 to C4 by the definitions, refusals among them; its tables are planned, so that demand 3 speaks of them.
+-- Document 01's example: the lines of its checks C1 to C4 by the definitions, refusals among them; its tables are planned, so that demand 3 speaks of them.
 -- Assumes nothing.
 use Prim.Native.Nat.{ℕ, zero, suc, max, _<_, _+_, _*_, _^_, _/_}
 use native.Mathlib.Omega.{arith}
@@ -27,12 +27,13 @@ use Rattle.compile.specs.Roots.{rootBy, rootOf, rootsOf}
 use Rattle.words.specs.Bit.{bit}
 use Rattle.words.specs.Next.{next}
 use Rattle.words.specs.Sets.{member, inserted, removed}
+use Rattle.readers.specs.Joined as listing
+use Rattle.readers.specs.Reader.{readingOf, packed}
+use Rattle.readers.specs.Readers.{occurrences, readingNode, readersOf}
+use Rattle.readers.specs.AtomNodes.{atomNodesOf}
 use Rattle.kept.specs.Tabulate.{tabulate}
 use Rattle.kept.specs.SetOf.{setOf, allInserted}
 use Rattle.kept.specs.CountedSet.{countedSet, moved, withBit, withMember, lookup}
-use Rattle.kept.specs.Reading.{readingOf, packed}
-use Rattle.kept.specs.Readers as listing
-use Rattle.kept.specs.Readers.{occurrences, readingNode, readersOf, atomNodesOf}
 use Rattle.kept.specs.Tables.{Tables, operandsAt, soundNode, sound, between, listAt}
 use Rattle.kept.specs.Evaluation.{held, truth, bodyTrue, supports, support, falseRoot, summary, fresh}
 use Rattle.kept.specs.Verdict.{notModel, residual, stable, missingAtom, verdict, judged, verdictOf}
@@ -49,8 +50,8 @@ use Rattle.kept.specs.Series.{zeroedWords, answerTo, wordsAfter, Demand3
 use Rattle.kept.proofs.Series.{series}
 
 -- nodes Atom 0, Atom 1, Implies 0 1, False, Implies 0 3, Or 0 4; roots 5 and 2; a choice of atom 0, and atom 1 from node 0
-drawn : Tables
-drawn =
+exampleTables : Tables
+exampleTables =
     record {
       counts = record { stamp = 7; atoms = 2; nodes = 6; operands = 2; roots = 2 };
       plan = 7;
@@ -75,7 +76,7 @@ of stamp word = record { stamp = stamp; words = word ∷ [] }
 
 shown : List Answer
 shown =
-    lines drawn (zeroedWords drawn (9 ∷ []))
+    lines exampleTables (zeroedWords exampleTables (9 ∷ []))
     (of 7 2 ∷ of 8 0 ∷ of 7 3 ∷ of 7 7 ∷ of 7 1 ∷ record { stamp = 7; words = [] } ∷ of 7 0 ∷ of 7 0 ∷ [])
 
 -- held words whose false roots have position 9 of 2
@@ -87,12 +88,12 @@ astray : List ℕ
 astray = (1 ∷ 7 ∷ 0 ∷ 0 ∷ 1 ∷ replicate 11 0) ++ ((0 ∷ 0 ∷ 1 ∷ 0 ∷ 1 ∷ 1 ∷ []) ++ (512 ∷ 1 ∷ 0 ∷ 0 ∷ 0 ∷ 0 ∷ []) ++ replicate 8 0 ++ (9 ∷ []))
 
 -- C1 to C4, with refusals 15, 16 and 9 among them; and 17, after which every listed word is 0
-drawing : (shown
+example : (shown
     ≡ accepted (residual 1) 6 ∷ refused ForeignStamp ∷ accepted stable 4 ∷ refused (StrayBit 2) ∷ accepted (notModel 2) 2 ∷ refused (ShortBuffer 0) ∷ accepted stable 4 ∷ accepted stable 0 ∷ [])
-    × (outcome 64 8 drawn (of 7 0) spoilt ≡ record { answer = refused (BadEntry 0); words = replicate 36 0 ++ (9 ∷ []) })
-    × (outcome 64 8 drawn (of 7 0) astray ≡ record { answer = refused (BadEntry 0); words = replicate 36 0 ++ (9 ∷ []) })
-unfolding shown spoilt astray lines of drawn outcome outcomeAt tests limitsOf firstShort stamps strayBit atomsOf cleared written ofWords image flat cut result isKept changes keptResult freshResult tablesAdmission nodeEntry producerEntry rootEntry firstRefusal keptWalk walkStart atomUpdated atomTurned allEntered walk step stepAt seen settled readersUpdated readerUpdated rootTurned supportMoved entered verdict judged verdictOf missingAtom held truth bodyTrue supports support falseRoot summary fresh sound soundNode operandsAt between listAt readingOf setOf allInserted countedSet moved withBit withMember lookup tabulate member inserted removed next bit places count lowest nodeAt span operandsOf nodeTruth nodeTruths allTrue anyTrue allBelow rising extended
-drawing = (refl, refl, refl)
+    × (outcome 64 8 exampleTables (of 7 0) spoilt ≡ record { answer = refused (BadEntry 0); words = replicate 36 0 ++ (9 ∷ []) })
+    × (outcome 64 8 exampleTables (of 7 0) astray ≡ record { answer = refused (BadEntry 0); words = replicate 36 0 ++ (9 ∷ []) })
+unfolding shown spoilt astray lines of exampleTables outcome outcomeAt tests limitsOf firstShort stamps strayBit atomsOf cleared written ofWords image flat cut result isKept changes keptResult freshResult tablesAdmission nodeEntry producerEntry rootEntry firstRefusal keptWalk walkStart atomUpdated atomTurned allEntered walk step stepAt seen settled readersUpdated readerUpdated rootTurned supportMoved entered verdict judged verdictOf missingAtom held truth bodyTrue supports support falseRoot summary fresh sound soundNode operandsAt between listAt readingOf setOf allInserted countedSet moved withBit withMember lookup tabulate member inserted removed next bit places count lowest nodeAt span operandsOf nodeTruth nodeTruths allTrue anyTrue allBelow rising extended
+example = (refl, refl, refl)
 
 -- the thresholds of 512 and 520 atoms
 thresholds : (max 64 (512 / 8) ≡ 64) × (max 64 (520 / 8) ≡ 65)
@@ -100,8 +101,8 @@ thresholds = (refl, refl)
 
 -- ---- the tables are planned
 
-node-formed : (k : ℕ) → k < 6 → NodeFormed (drawn .counts) (drawn .operands) (spanStart (drawn .nodes) k) k (nodeAt (drawn .nodes) k)
-unfolding drawn nodeAt spanStart span
+node-formed : (k : ℕ) → k < 6 → NodeFormed (exampleTables .counts) (exampleTables .operands) (spanStart (exampleTables .nodes) k) k (nodeAt (exampleTables .nodes) k)
+unfolding exampleTables nodeAt spanStart span
 node-formed zero l = omega arith
 node-formed (suc zero) l = omega arith
 node-formed (suc (suc zero)) l = (omega arith, omega arith)
@@ -110,14 +111,14 @@ node-formed (suc (suc (suc (suc zero)))) l = (omega arith, omega arith)
 node-formed (suc (suc (suc (suc (suc zero))))) l = record { begins = refl; some = omega arith; fits = omega arith; lower = (omega arith, (omega arith, tt)) }
 node-formed (suc (suc (suc (suc (suc (suc k)))))) l = absurd (omega arith)
 
-root-in : (r : ℕ) → r < 2 → getD (drawn .roots) r 0 < 6
-unfolding drawn
+root-in : (r : ℕ) → r < 2 → getD (exampleTables .roots) r 0 < 6
+unfolding exampleTables
 root-in zero l = omega arith
 root-in (suc zero) l = omega arith
 root-in (suc (suc r)) l = absurd (omega arith)
 
-readers-listed : (k : ℕ) → k < 6 → listAt drawn k ≡ some (readersOf (drawn .counts) (drawn .nodes) (drawn .operands) (drawn .roots) (drawn .producers) (drawn .made) k)
-unfolding drawn listAt between readersOf listing.joined readingNode occurrences packed places nodeAt span operandsOf
+readers-listed : (k : ℕ) → k < 6 → listAt exampleTables k ≡ some (readersOf (exampleTables .counts) (exampleTables .nodes) (exampleTables .operands) (exampleTables .roots) (exampleTables .producers) (exampleTables .made) k)
+unfolding exampleTables listAt between readersOf listing.joined readingNode occurrences packed places nodeAt span operandsOf
 readers-listed zero l = refl
 readers-listed (suc zero) l = refl
 readers-listed (suc (suc zero)) l = refl
@@ -126,14 +127,14 @@ readers-listed (suc (suc (suc (suc zero)))) l = refl
 readers-listed (suc (suc (suc (suc (suc zero))))) l = refl
 readers-listed (suc (suc (suc (suc (suc (suc k)))))) l = absurd (omega arith)
 
-atoms-listed : (a : ℕ) → a < 2 → listAt drawn (7 + a) ≡ some (atomNodesOf (drawn .counts) (drawn .nodes) a)
-unfolding drawn listAt between atomNodesOf places nodeAt
+atoms-listed : (a : ℕ) → a < 2 → listAt exampleTables (7 + a) ≡ some (atomNodesOf (exampleTables .counts) (exampleTables .nodes) a)
+unfolding exampleTables listAt between atomNodesOf places nodeAt
 atoms-listed zero l = refl
 atoms-listed (suc zero) l = refl
 atoms-listed (suc (suc a)) l = absurd (omega arith)
 
-planned : PlannedTables drawn
-unfolding drawn rootsSupported firstRefusal supportedAt refusedBy producers producerWords madeBy produced producedBy fact rule heads.headOf heads.chosen heads.eitherOrder classWords nodeClasses nodeClass joined rootsOf rootOf rootBy formula nodeFormulas nodeFormula ofList class highest rising extended nodeAt span
+planned : PlannedTables exampleTables
+unfolding exampleTables rootsSupported firstRefusal supportedAt refusedBy producers producerWords madeBy produced producedBy fact rule heads.headOf heads.chosen heads.eitherOrder classWords nodeClasses nodeClass joined rootsOf rootOf rootBy formula nodeFormulas nodeFormula ofList class highest rising extended nodeAt span
 planned =
     record {
       limited = record { atoms = omega arith; nodes = omega arith; operands = omega arith; roots = omega arith };
@@ -149,5 +150,5 @@ planned =
       stamp = refl;
     }
 
-drawn-series : (past : List ℕ) (cs : List Candidate) → Demand3 64 8 drawn past cs
-drawn-series = series 64 8 drawn planned
+example-series : (past : List ℕ) (cs : List Candidate) → Demand3 64 8 exampleTables past cs
+example-series = series 64 8 exampleTables planned
