@@ -98,6 +98,13 @@ made-one Nothing = omega arith
 made-one (Made p) = omega arith
 made-one (Refused r) = omega arith
 
+-- at most one a root
+pub few-producers : (nodes operands classes roots : List ℕ) → length (producers nodes operands classes roots) ≤ length roots
+unfolding producers
+few-producers nodes operands classes [] = omega arith
+few-producers nodes operands classes (k ∷ roots) =
+    omega (arith, length-append (madeBy (produced nodes operands classes k)) (producers nodes operands classes roots), made-one (produced nodes operands classes k), few-producers nodes operands classes roots)
+
 -- a turn of the loop that writes the producers
 module _ (nodes operands classes roots : List ℕ) (i root : ℕ) (made : Produced) (h : i < length roots) (p : root ≡ getD roots i 0) (q : made ≡ produced nodes operands classes root) where
   pub extract-count : (n r : ℕ) → n ≡ length (producersBefore nodes operands classes roots i) → r ≡ n + length (madeBy made) → r ≡ length (producersBefore nodes operands classes roots (i + 1))

@@ -5,7 +5,7 @@ use native.Mathlib.Omega.{arith}
 use mathlib.Core.Path.{_≡_, refl, ap, sym, _∙_}
 use mathlib.Core.Bool.{true}
 use mathlib.Core.List.{List, [], _∷_, _++_}
-use lib.ListN.{length, getD, take, length-append, length-take}
+use lib.ListN.{length, getD, take, length-take}
 use lib.Seq.{getD-take}
 use borrow.Author.Tests.{lt-ltb, le-leb}
 use Rattle.base.specs.Tests.{both}
@@ -21,7 +21,7 @@ use Rattle.theory.specs.declared.Node.{Node}
 use Rattle.theory.specs.declared.Node.the-variants.{Atom, False, Implies, And, Or, Unknown}
 use Rattle.compile.specs.Producer.{produced}
 use Rattle.compile.specs.Producers.{refusedBy, supportedAt, rootsSupported, madeBy, producers, producerWords}
-use Rattle.compile.specs.ProducersLaws.{made-one}
+use Rattle.compile.specs.ProducersLaws.{few-producers}
 use Rattle.compile.specs.declared.Producer.{Producer}
 use Rattle.compile.specs.declared.Produced.{Produced}
 use Rattle.compile.specs.declared.Produced.the-variants.{Nothing, Made, Refused}
@@ -78,12 +78,6 @@ module _ (t : Counts) (nodes operands classes : List ℕ) (tables : NodeTables t
   producers-inside (k ∷ roots) h =
       each-append Inside (madeBy (produced nodes operands classes k)) (producers nodes operands classes roots)
       (made-inside k (h .0) (produced nodes operands classes k) refl) (producers-inside roots (h .1))
-
-few-producers : (nodes operands classes roots : List ℕ) → length (producers nodes operands classes roots) ≤ length roots
-unfolding producers
-few-producers nodes operands classes [] = omega arith
-few-producers nodes operands classes (k ∷ roots) =
-    omega (arith, length-append (madeBy (produced nodes operands classes k)) (producers nodes operands classes roots), made-one (produced nodes operands classes k), few-producers nodes operands classes roots)
 
 module _ (T : Tables) (plan : PlannedTables T) where
   abbrev pub rootList : List ℕ

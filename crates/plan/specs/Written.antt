@@ -4,7 +4,7 @@ use Prim.Native.Nat.{ℕ, zero, suc, _+_, _*_, _<_, _≤_}
 use native.Mathlib.Omega.{arith}
 use mathlib.Core.Path.{_≡_, refl, ap, sym, _∙_}
 use mathlib.Core.List.{List, [], _∷_, _++_}
-use lib.ListN.{length, getD, take, drop, length-append, length-take}
+use lib.ListN.{length, getD, take, drop, length-take}
 use lib.Seq.{getD-take, length-take-le}
 use Rattle.base.specs.Each.{Each, at-each, each-append}
 use Rattle.base.specs.Front.{front}
@@ -13,18 +13,12 @@ use Rattle.theory.specs.Limits.{Limited}
 use Rattle.theory.specs.declared.Counts.{Counts}
 use Rattle.compile.specs.Producer.{produced}
 use Rattle.compile.specs.Producers.{madeBy, producers, producerWords}
-use Rattle.compile.specs.ProducersLaws.{producersBefore, made-one, length-words}
+use Rattle.compile.specs.ProducersLaws.{producersBefore, few-producers, length-words}
 use Rattle.compile.specs.declared.Producer.{Producer}
 use Rattle.compile.specs.declared.Produced.{Produced}
 use Rattle.compile.specs.declared.Produced.the-variants.{Nothing, Made, Refused}
 use Rattle.compile.proofs.RootFormula.{producer-bounded}
 use Rattle.readers.specs.Planned.{Planned}
-
-pub made-count : (nodes operands classes ks : List ℕ) → length (producers nodes operands classes ks) ≤ length ks
-unfolding producers
-made-count nodes operands classes [] = omega arith
-made-count nodes operands classes (k ∷ ks) =
-    omega (arith, length-append (madeBy (produced nodes operands classes k)) (producers nodes operands classes ks), made-one (produced nodes operands classes k), made-count nodes operands classes ks)
 
 made-body : (t : Counts) (nodes operands classes : List ℕ) → NodeTables t nodes operands → (k : ℕ) → k < t .nodes → (m : Produced) → produced nodes operands classes k ≡ m → Each (λ p. p .body ≤ t .nodes) (madeBy m)
 unfolding madeBy
@@ -54,7 +48,7 @@ pub written-planned : (t : Counts) (nodes operands classes roots ds : List ℕ) 
     → Planned t nodes operands roots ws p
 unfolding front producersBefore
 written-planned t nodes operands classes roots ds limited tables listed long p ws e same w =
-    let few : length (producers nodes operands classes (take (t .roots) roots)) ≤ t .roots = omega (arith, made-count nodes operands classes (take (t .roots) roots), length-take-le (t .roots) roots (listed .roots-long)) in
+    let few : length (producers nodes operands classes (take (t .roots) roots)) ≤ t .roots = omega (arith, few-producers nodes operands classes (take (t .roots) roots), length-take-le (t .roots) roots (listed .roots-long)) in
     record {
       limited = limited;
       tables = tables;

@@ -20,7 +20,7 @@ use Rattle.theory.specs.declared.Admission.{Admission}
 use Rattle.theory.specs.declared.Admission.the-variants as admitted
 use Rattle.theory.proofs.Admitted.{admitted-formed}
 use Rattle.compile.specs.Producers.{rootsSupported, producers, producerWords}
-use Rattle.compile.specs.ProducersLaws.{producersBefore, length-words}
+use Rattle.compile.specs.ProducersLaws.{producersBefore, few-producers, length-words}
 use Rattle.compile.specs.declared.Producer.{Producer}
 use Rattle.ranks.specs.Classed.{Classed}
 use Rattle.ranks.specs.RankCheck.{rankCheck}
@@ -39,7 +39,7 @@ use Rattle.readers.proofs.Readers.{lists-laid}
 use Rattle.plan.specs.Buffers.{shortBuffer, LongEnough, long-enough, within-limits}
 use Rattle.plan.specs.Judged.{classes, judged, derived, acyclic, planJudged, certifyJudged}
 use Rattle.plan.specs.Outcome.{Outcome, producersOf, planned, ranksOf, lengths, planOutcome, certifyOutcome}
-use Rattle.plan.specs.Written.{made-count, written-planned}
+use Rattle.plan.specs.Written.{written-planned}
 use Rattle.plan.specs.declared.Lengths.{Lengths}
 use Rattle.plan.specs.declared.Planning.the-variants.{Planned, Refused}
 use Rattle.kept.specs.Tables.{Tables, between, listAt}
@@ -106,7 +106,7 @@ module _ (t : Counts) (nodes operands roots ps rs us ws : List ℕ) where
 
     few : length made ≤ t .roots
     unfolding producersBefore
-    few = omega (arith, made-count nodes operands classesOf (take (t .roots) roots), length-take-le (t .roots) roots (long .roots-long))
+    few = omega (arith, few-producers nodes operands classesOf (take (t .roots) roots), length-take-le (t .roots) roots (long .roots-long))
 
     same-long : length written ≡ length ps
     same-long = length-of-front (producerWords made) ps (omega (arith, length-words made, few, long .producers-long))
