@@ -34,11 +34,12 @@ use Rattle.readers.specs.AtomNodes.{atomNodesOf}
 use Rattle.kept.specs.Tabulate.{tabulate}
 use Rattle.kept.specs.SetOf.{setOf, allInserted}
 use Rattle.kept.specs.CountedSet.{countedSet, moved, withBit, withMember, lookup}
-use Rattle.kept.specs.Tables.{Tables, operandsAt, soundNode, sound, between, listAt}
+use Rattle.kept.specs.Tables.{Tables, operandsAt, between, listAt}
 use Rattle.kept.specs.Evaluation.{held, truth, bodyTrue, supports, support, falseRoot, summary, fresh}
 use Rattle.kept.specs.Verdict.{notModel, residual, stable, missingAtom, verdict, judged, verdictOf}
+use Rattle.kept.specs.Seen.{groupSeen, nodeSeen, seenBy}
 use Rattle.kept.specs.Step.{entered, supportMoved, rootTurned, readerUpdated, readersUpdated, settled, seen, stepAt, step}
-use Rattle.kept.specs.Start.{allEntered, atomTurned, atomUpdated, walkStart}
+use Rattle.kept.specs.Start.{allEntered, atomTurned, atomUpdated, walkStart, least, leastNode, lowestEntered}
 use Rattle.kept.specs.Walk.{walk, keptWalk}
 use Rattle.kept.specs.Check.{nodeEntry, producerEntry, rootEntry, tablesAdmission, freshResult, keptResult, changes, isKept, result}
 use Rattle.kept.specs.Layout.{flat, cut, image, ofWords, written}
@@ -92,7 +93,7 @@ example : (shown
     ≡ accepted (residual 1) 6 ∷ refused ForeignStamp ∷ accepted stable 4 ∷ refused (StrayBit 2) ∷ accepted (notModel 2) 2 ∷ refused (ShortBuffer 0) ∷ accepted stable 4 ∷ accepted stable 0 ∷ [])
     × (outcome 64 8 exampleTables (of 7 0) spoilt ≡ record { answer = refused (BadEntry 0); words = replicate 36 0 ++ (9 ∷ []) })
     × (outcome 64 8 exampleTables (of 7 0) astray ≡ record { answer = refused (BadEntry 0); words = replicate 36 0 ++ (9 ∷ []) })
-unfolding shown spoilt astray lines of exampleTables outcome outcomeAt tests limitsOf firstShort stamps strayBit atomsOf cleared written ofWords image flat cut result isKept changes keptResult freshResult tablesAdmission nodeEntry producerEntry rootEntry firstRefusal keptWalk walkStart atomUpdated atomTurned allEntered walk step stepAt seen settled readersUpdated readerUpdated rootTurned supportMoved entered verdict judged verdictOf missingAtom held truth bodyTrue supports support falseRoot summary fresh sound soundNode operandsAt between listAt readingOf setOf allInserted countedSet moved withBit withMember lookup tabulate member inserted removed next bit places count lowest nodeAt span operandsOf nodeTruth nodeTruths allTrue anyTrue allBelow rising extended
+unfolding shown spoilt astray lines of exampleTables outcome outcomeAt tests limitsOf firstShort stamps strayBit atomsOf cleared written ofWords image flat cut result isKept changes keptResult freshResult tablesAdmission nodeEntry producerEntry rootEntry firstRefusal keptWalk walkStart atomUpdated atomTurned allEntered walk step stepAt seen seenBy nodeSeen groupSeen least leastNode lowestEntered settled readersUpdated readerUpdated rootTurned supportMoved entered verdict judged verdictOf missingAtom held truth bodyTrue supports support falseRoot summary fresh operandsAt between listAt readingOf setOf allInserted countedSet moved withBit withMember lookup tabulate member inserted removed next bit places count lowest nodeAt span operandsOf nodeTruth nodeTruths allTrue anyTrue allBelow rising extended
 example = (refl, refl, refl)
 
 -- the thresholds of 512 and 520 atoms

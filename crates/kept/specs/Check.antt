@@ -13,8 +13,9 @@ use Rattle.theory.specs.declared.Admission.the-variants.{Admitted, Refused}
 use Rattle.theory.specs.declared.Refusal.{Refusal}
 use Rattle.theory.specs.declared.Refusal.the-variants.{BadEntry}
 use Rattle.words.specs.Changed.{unlike}
-use Rattle.kept.specs.Tables.{Tables, atomCount, nodeCount, rootCount, rootAt, headAt, bodyAt, sound}
-use Rattle.kept.specs.Evaluation.{Evaluation, present, fresh}
+use Rattle.kept.specs.Tables.{Tables, atomCount, nodeCount, rootCount, rootAt, headAt, bodyAt}
+use Rattle.kept.specs.Seen.{seenBy}
+use Rattle.kept.specs.Evaluation.{Evaluation, present, truth, fresh}
 use Rattle.kept.specs.Verdict.{Verdict, verdict, verdictOf}
 use Rattle.kept.specs.Walk.{Walked, ended, broken, keptWalk}
 
@@ -28,8 +29,13 @@ pub data Result : Type 0 where
 abbrev pub entry : Bool → ℕ → Admission
 entry b place = cond b Admitted (Refused (BadEntry place))
 
-unfoldable pub nodeEntry : Tables → ℕ → Admission
-nodeEntry T k = entry (sound T k) k
+abbrev pub seenEntry : ℕ → Option Bool → Admission
+seenEntry k none = Refused (BadEntry k)
+seenEntry k (some t) = Admitted
+
+-- a node's truth by those of lower nodes under J
+unfoldable pub nodeEntry : Tables → Interpretation → ℕ → Admission
+nodeEntry T J k = seenEntry k (seenBy T J (truth T J) k)
 
 unfoldable pub producerEntry : Tables → ℕ → Admission
 producerEntry T p = entry (ltb (headAt T p) (atomCount T) && leb (bodyAt T p) (nodeCount T)) 0
@@ -37,9 +43,9 @@ producerEntry T p = entry (ltb (headAt T p) (atomCount T) && leb (bodyAt T p) (n
 unfoldable pub rootEntry : Tables → ℕ → Admission
 rootEntry T r = entry (ltb (rootAt T r) (nodeCount T)) 0
 
-unfoldable pub tablesAdmission : Tables → Admission
-tablesAdmission T =
-    orElse (firstRefusal (nodeEntry T) 0 (nodeCount T)) (orElse (firstRefusal (producerEntry T) 0 (T .made)) (firstRefusal (rootEntry T) 0 (rootCount T)))
+unfoldable pub tablesAdmission : Tables → Interpretation → Admission
+tablesAdmission T J =
+    orElse (firstRefusal (nodeEntry T J) 0 (nodeCount T)) (orElse (firstRefusal (producerEntry T) 0 (T .made)) (firstRefusal (rootEntry T) 0 (rootCount T)))
 
 unfoldable pub freshResult : Tables → Interpretation → Admission → Result
 freshResult T J Admitted = accepted (verdict T J) (nodeCount T) (fresh T J)
@@ -71,4 +77,4 @@ module _ (floor divisor : ℕ) where
   unfoldable pub result : Tables → Interpretation → Evaluation → Result
   result T J e =
       cond (ltb (rootCount T) (T .made)) (refused (BadEntry 0))
-      (cond (isKept T J e) (keptResult T (keptWalk T J e)) (freshResult T J (tablesAdmission T)))
+      (cond (isKept T J e) (keptResult T (keptWalk T J e)) (freshResult T J (tablesAdmission T J)))

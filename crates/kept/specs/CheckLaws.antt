@@ -22,12 +22,13 @@ use Rattle.kept.specs.SetOf.{words32, setOf}
 use Rattle.kept.specs.SetOfLaws.{member-below, member-above, length-setOf}
 use Rattle.kept.specs.CountedSetLaws.{unlike-same}
 use Rattle.kept.specs.Tables.{Tables, atomCount, nodeCount, rootCount, rootAt, headAt, bodyAt}
-use Rattle.kept.specs.Evaluation.{zeroed, held, summary, fresh}
+use Rattle.kept.specs.Evaluation.{zeroed, held, truth, summary, fresh}
 use Rattle.kept.specs.Verdict.{verdict}
 use Rattle.kept.specs.Dirty.{dirty}
 use Rattle.kept.specs.Walk.{keptWalk}
 use Rattle.kept.specs.Check.{accepted, nodeEntry, producerEntry, rootEntry, tablesAdmission, freshResult, keptResult, changes, most, isKept, result}
 use Rattle.kept.specs.Consistent.{Consistent}
+use Rattle.kept.specs.SeenLaws.{seen-sound}
 use Rattle.kept.specs.StartLaws.{kept-fresh}
 use Rattle.kept.specs.VerdictLaws.{verdict-fresh}
 
@@ -63,9 +64,9 @@ changes-fresh T I J w =
     none = count-none differs (0 + A) (words32 A * 32 - A) (λ a i l. unlike-same _ (J a) (member-above I A a (omega arith) ∙ sym (outside-false A J w a (omega arith))))
 
 module _ (T : Tables) (good : Consistent T) where
-  nodes-admitted : firstRefusal (nodeEntry T) 0 (nodeCount T) ≡ Admitted
+  nodes-admitted : (J : Interpretation) → firstRefusal (nodeEntry T J) 0 (nodeCount T) ≡ Admitted
   unfolding nodeEntry
-  nodes-admitted = all-admitted (nodeEntry T) 0 (nodeCount T) (λ k a b. rw (good .node k (omega arith)))
+  nodes-admitted J = all-admitted (nodeEntry T J) 0 (nodeCount T) (λ k a b. rw (seen-sound T J (truth T J) k (good .node k (omega arith))))
 
   producers-admitted : firstRefusal (producerEntry T) 0 (T .made) ≡ Admitted
   unfolding producerEntry
@@ -77,13 +78,13 @@ module _ (T : Tables) (good : Consistent T) where
   unfolding rootEntry
   roots-admitted = all-admitted (rootEntry T) 0 (rootCount T) (λ r a b. rw (lt-ltb (rootAt T r) (nodeCount T) (good .root r (omega arith))))
 
-  pub tables-admitted : tablesAdmission T ≡ Admitted
+  pub tables-admitted : (J : Interpretation) → tablesAdmission T J ≡ Admitted
   unfolding tablesAdmission
-  tables-admitted = rw (nodes-admitted, producers-admitted, roots-admitted)
+  tables-admitted J = rw (nodes-admitted J, producers-admitted, roots-admitted)
 
-  fresh-result : (J : Interpretation) → freshResult T J (tablesAdmission T) ≡ accepted (verdict T J) (nodeCount T) (fresh T J)
+  fresh-result : (J : Interpretation) → freshResult T J (tablesAdmission T J) ≡ accepted (verdict T J) (nodeCount T) (fresh T J)
   unfolding freshResult
-  fresh-result J = rw tables-admitted
+  fresh-result J = rw (tables-admitted J)
 
   kept-result : (I J : Interpretation) → keptResult T (keptWalk T J (fresh T I)) ≡ accepted (verdict T J) (length (places (dirty T I J) 0 (nodeCount T))) (fresh T J)
   unfolding keptResult
@@ -114,7 +115,7 @@ module _ (T : Tables) (good : Consistent T) where
     unfolding result goneOver count
     result-fresh I J w = rw (le-ltb (rootCount T) (T .made) (good .few), is-kept I J w) (go (leb (changedAtoms T I J) (most floor divisor T)))
       where
-        go : (b : Bool) → cond b (keptResult T (keptWalk T J (fresh T I))) (freshResult T J (tablesAdmission T))
+        go : (b : Bool) → cond b (keptResult T (keptWalk T J (fresh T I))) (freshResult T J (tablesAdmission T J))
             ≡ accepted (verdict T J) (cond b (length (places (dirty T I J) 0 (nodeCount T))) (nodeCount T)) (fresh T J)
         go true = kept-result I J
         go false = fresh-result J

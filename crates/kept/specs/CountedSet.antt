@@ -45,6 +45,6 @@ pub data Lookup : Type 0 where
   empty astray : Lookup
   at : ℕ → Lookup
 
--- the lowest member; astray: there is none though the count is not 0, or it is not below n
-unfoldable pub lookup : ℕ → CountedSet → Lookup
-lookup n s = cond (eqb (s .size) 0) empty (cond (ltb (next 32 (s .members) 0) n) (at (next 32 (s .members) 0)) astray)
+-- the lowest member from i on; astray: there is none though the count is not 0, or it is not below n
+unfoldable pub lookup : ℕ → ℕ → CountedSet → Lookup
+lookup n i s = cond (eqb (s .size) 0) empty (cond (ltb (next 32 (s .members) i) n) (at (next 32 (s .members) i)) astray)

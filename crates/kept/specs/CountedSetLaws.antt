@@ -1,6 +1,6 @@
 -- Laws of a set with its count: of one given by a test, and of any.
 -- Assumes nothing.
-use Prim.Native.Nat.{ℕ, suc, _+_, _-_, _<_}
+use Prim.Native.Nat.{ℕ, suc, _+_, _-_, _<_, _≤_}
 use native.Mathlib.Nat.{zero-add}
 use native.Mathlib.Omega.{arith}
 use mathlib.Core.Path.{_≡_, refl, ap, sym, _∙_, fun-ext}
@@ -93,10 +93,10 @@ member-set f n i x l = rw (member-below f n i l) (go (unlike (f i) x) refl)
     go false e = ap (λ g. some (countedSet g n)) (sym (fun-ext (updated-same f i x (unlike-false (f i) x e))))
 
 module _ (f : ℕ → Bool) (n : ℕ) where
-  pub lookup-at : (k : ℕ) → k < n → f k ≡ true → ((j : ℕ) → j < k → f j ≡ false) → lookup n (countedSet f n) ≡ at k
+  pub lookup-at : (i k : ℕ) → i ≤ k → k < n → f k ≡ true → ((j : ℕ) → j < k → f j ≡ false) → lookup n i (countedSet f n) ≡ at k
   unfolding lookup countedSet
-  lookup-at k l e h = rw (ne-eqb (count f 0 n) 0 (λ z. true≢false (sym e ∙ count-zero f n z k l)), next-found f n k l e h, lt-ltb k n l)
+  lookup-at i k m l e h = rw (ne-eqb (count f 0 n) 0 (λ z. true≢false (sym e ∙ count-zero f n z k l)), next-found f n i k m l e h, lt-ltb k n l)
 
-  pub lookup-empty : ((j : ℕ) → j < n → f j ≡ false) → lookup n (countedSet f n) ≡ empty
+  pub lookup-empty : (i : ℕ) → ((j : ℕ) → j < n → f j ≡ false) → lookup n i (countedSet f n) ≡ empty
   unfolding lookup countedSet
-  lookup-empty h = rw (count-none f 0 n (λ j a b. h j (omega arith)))
+  lookup-empty i h = rw (count-none f 0 n (λ j a b. h j (omega arith)))

@@ -5,6 +5,7 @@ pub mod CountedSet
 pub mod CountedSetLaws
 pub mod Tables
 pub mod Evaluation
+pub mod Seen
 pub mod Verdict
 pub mod Parts
 pub mod Step
@@ -17,6 +18,7 @@ pub mod Candidate
 pub mod Tests
 pub mod Outcome
 pub mod Consistent
+pub mod SeenLaws
 pub mod HeldLaws
 pub mod PlaceLaws
 pub mod ReaderLaws

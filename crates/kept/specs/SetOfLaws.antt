@@ -177,10 +177,10 @@ module _ (f : ℕ → Bool) (n : ℕ) where
   places-in : n ≤ 32 * length (setOf f n)
   places-in = rw (length-setOf f n) (omega arith)
 
-  pub next-found : (k : ℕ) → k < n → f k ≡ true → ((j : ℕ) → j < k → f j ≡ false) → next 32 (setOf f n) 0 ≡ k
+  pub next-found : (i k : ℕ) → i ≤ k → k < n → f k ≡ true → ((j : ℕ) → j < k → f j ≡ false) → next 32 (setOf f n) i ≡ k
   unfolding next
-  next-found k l e h = sym (lowest-only (member 32 (setOf f n)) 0 (32 * length (setOf f n) - 0) k (record {
-    from = omega arith;
+  next-found i k m l e h = sym (lowest-only (member 32 (setOf f n)) i (32 * length (setOf f n) - i) k (record {
+    from = m;
     within = omega (arith, places-in);
     before = λ j a b. member-below f n j (omega arith) ∙ h j b;
     here = λ b. member-below f n k l ∙ e;

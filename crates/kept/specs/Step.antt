@@ -6,14 +6,13 @@ use mathlib.Core.List.{List, [], _∷_}
 use mathlib.Core.Option.{Option, some, none}
 use lib.Dec.{eqb, ltb}
 use lib.ListN.{getD, set}
-use Rattle.theory.specs.Node.{nodeAt}
-use Rattle.theory.specs.NodeTruth.{nodeTruth}
 use Rattle.words.specs.Changed.{unlike}
 use Rattle.readers.specs.declared.Reading.{Reading}
 use Rattle.readers.specs.declared.Reading.the-variants.{Node, Producer, Root, Unknown}
 use Rattle.readers.specs.Reader.{readingOf}
 use Rattle.kept.specs.CountedSet.{andThen, CountedSet, moved, withMember, Lookup, empty, astray, at, lookup}
-use Rattle.kept.specs.Tables.{Tables, atomCount, nodeCount, rootCount, headAt, sound, readersAt}
+use Rattle.kept.specs.Tables.{Tables, atomCount, nodeCount, rootCount, headAt, readersAt}
+use Rattle.kept.specs.Seen.{seenBy}
 use Rattle.kept.specs.Evaluation.{Evaluation, truthAt, present, truthWord}
 use Rattle.kept.specs.Parts.{withTruths, withWorklist, withSupport, withFalseRoots}
 
@@ -64,17 +63,19 @@ settled T k t e =
     (took k e)
 
 -- the truth of node k by the evaluation
-unfoldable pub seen : Tables → Evaluation → ℕ → Bool
-seen T e k = nodeTruth (present e) (T .operands) (truthAt e) (nodeAt (T .nodes) k)
+unfoldable pub seen : Tables → Evaluation → ℕ → Option Bool
+seen T e k = seenBy T (present e) (truthAt e) k
 
-abbrev pub settledFrom : Tables → ℕ → Bool → Evaluation → Option CountedSet → Stepped
-settledFrom T k t e none = fault k
-settledFrom T k t e (some w) = settled T k t (withWorklist e w)
+abbrev pub settledFrom : Tables → ℕ → Evaluation → Option Bool → Option CountedSet → Stepped
+settledFrom T k e none w = fault k
+settledFrom T k e (some t) none = fault k
+settledFrom T k e (some t) (some w) = settled T k t (withWorklist e w)
 
 unfoldable pub stepAt : Tables → Evaluation → Lookup → Stepped
 stepAt T e empty = idle
 stepAt T e astray = fault 0
-stepAt T e (at k) = cond (sound T k) (settledFrom T k (seen T e k) e (withMember (nodeCount T) (e .worklist) k false)) (fault k)
+stepAt T e (at k) = settledFrom T k e (seen T e k) (withMember (nodeCount T) (e .worklist) k false)
 
-unfoldable pub step : Tables → Evaluation → Stepped
-step T e = stepAt T e (lookup (nodeCount T) (e .worklist))
+-- the lowest node of the worklist; the nodes below i have been gone over
+unfoldable pub step : Tables → ℕ → Evaluation → Stepped
+step T i e = stepAt T e (lookup (nodeCount T) i (e .worklist))

@@ -1,10 +1,11 @@
 -- One step on an evaluation that summarises its truths.
 -- Assumes nothing.
-use Prim.Native.Nat.{ℕ, _<_}
+use Prim.Native.Nat.{ℕ, _<_, _≤_}
 use native.Mathlib.Omega.{arith}
 use mathlib.Core.Path.{_≡_, refl, ap, ap₂, sym, _∙_, fun-ext}
 use mathlib.Core.Bool.{Bool, true, false, not, cond, _&&_, _||_, or-false}
 use mathlib.Core.List.{List}
+use mathlib.Core.Option.{some}
 use lib.Dec.{ltb}
 use lib.ListN.{set}
 use borrow.Author.Tests.{lt-ltb}
@@ -24,6 +25,7 @@ use Rattle.kept.specs.Evaluation.{Evaluation, truthAt, present, truthWor
 use Rattle.kept.specs.Parts.{withTruths}
 use Rattle.kept.specs.Step.{readersUpdated, took, tookAt, settled, settledFrom, seen, stepAt, step}
 use Rattle.kept.specs.Consistent.{Consistent, operands-lower, atom-lower}
+use Rattle.kept.specs.SeenLaws.{seen-sound}
 use Rattle.kept.specs.HeldLaws.{worklist-agree, truth-held, present-held, truths-held}
 use Rattle.kept.specs.ReaderLaws.{among, readers-told}
 
@@ -66,12 +68,13 @@ module _ (T : Tables) (good : Consistent T) (v w c : ℕ → Bool) where
   start = held T v w (support T v) c (falseRoot T v)
 
   -- what the evaluation shows of a node is its truth by the functions it holds
-  seen-held : (k : ℕ) → k < nodeCount T → seen T start k ≡ truthBy T c v k
+  seen-held : (k : ℕ) → k < nodeCount T → seen T start k ≡ some (truthBy T c v k)
   unfolding seen
   seen-held k l =
-      truth-agree T (present start) c (truthAt start) v k
+      seen-sound T (present start) (truthAt start) k (good .node k l)
+      ∙ ap some (truth-agree T (present start) c (truthAt start) v k
       (λ a i. present-held T v w (support T v) c (falseRoot T v) a (atom-lower T k a (good .node k l) i))
-      (each-map (λ o. o < k) (λ o. truthAt start o ≡ v o) (operandsAt T k) (λ o i. truth-held T v w (support T v) c (falseRoot T v) o (omega arith)) (operands-lower T k (good .node k l)))
+      (each-map (λ o. o < k) (λ o. truthAt start o ≡ v o) (operandsAt T k) (λ o i. truth-held T v w (support T v) c (falseRoot T v) o (omega arith)) (operands-lower T k (good .node k l))))
 
   settled-held : (k : ℕ) (t : Bool) → k < nodeCount T
       → settled T k t (held T v (updated w k false) (support T v) c (falseRoot T v)) ≡ took k (summary T (updated v k t) (workAfter T v w k t) c)
@@ -99,19 +102,19 @@ module _ (T : Tables) (good : Consistent T) (v w c : ℕ → Bool) where
           rw same (ap (took k) (worklist-agree T v off (λ j. off j || false && among k (operandsAt T j)) (support T v) c (falseRoot T v) (λ j i. sym (or-false (off j)))))
 
   -- node k is found, and taken off the worklist
-  found-held : (k : ℕ) → k < nodeCount T → w k ≡ true → ((j : ℕ) → j < k → w j ≡ false) → lookup (nodeCount T) (start .worklist) ≡ at k
+  found-held : (i k : ℕ) → i ≤ k → k < nodeCount T → w k ≡ true → ((j : ℕ) → j < k → w j ≡ false) → lookup (nodeCount T) i (start .worklist) ≡ at k
   unfolding held
-  found-held k l m h = lookup-at w (nodeCount T) k l m h
+  found-held i k b l m h = lookup-at w (nodeCount T) i k b l m h
 
   off-held : (k : ℕ) (t : Bool) → k < nodeCount T
-      → settledFrom T k t start (withMember (nodeCount T) (start .worklist) k false) ≡ settled T k t (held T v (updated w k false) (support T v) c (falseRoot T v))
+      → settledFrom T k start (some t) (withMember (nodeCount T) (start .worklist) k false) ≡ settled T k t (held T v (updated w k false) (support T v) c (falseRoot T v))
   unfolding held
   off-held k t l = rw (member-set w (nodeCount T) k false l)
 
   -- a step takes the lowest node of the worklist and gives it its truth
-  pub step-summary : (k : ℕ) → k < nodeCount T → w k ≡ true → ((j : ℕ) → j < k → w j ≡ false)
-      → step T (summary T v w c) ≡ took k (summary T (updated v k (truthBy T c v k)) (workAfter T v w k (truthBy T c v k)) c)
+  pub step-summary : (i k : ℕ) → i ≤ k → k < nodeCount T → w k ≡ true → ((j : ℕ) → j < k → w j ≡ false)
+      → step T i (summary T v w c) ≡ took k (summary T (updated v k (truthBy T c v k)) (workAfter T v w k (truthBy T c v k)) c)
   unfolding step stepAt summary
-  step-summary k l m h =
-      ap (stepAt T start) (found-held k l m h)
-      ∙ rw (good .node k l, seen-held k l) (off-held k (truthBy T c v k) l ∙ settled-held k (truthBy T c v k) l)
+  step-summary i k b l m h =
+      ap (stepAt T start) (found-held i k b l m h)
+      ∙ rw (seen-held k l) (off-held k (truthBy T c v k) l ∙ settled-held k (truthBy T c v k) l)

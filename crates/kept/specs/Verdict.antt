@@ -39,4 +39,4 @@ judged T empty astray = none
 judged T empty empty = some stable
 
 unfoldable pub verdictOf : Tables → Evaluation → Option Verdict
-verdictOf T e = judged T (lookup (rootCount T) (e .falseRoots)) (lookup (atomCount T) (e .missing))
+verdictOf T e = judged T (lookup (rootCount T) 0 (e .falseRoots)) (lookup (atomCount T) 0 (e .missing))

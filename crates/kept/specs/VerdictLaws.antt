@@ -70,10 +70,10 @@ module _ (p : ℕ → Bool) (n : ℕ) where
   abbrev pub lookupOf : Lookup
   lookupOf = cond (ltb (lowest p 0 n) n) (at (lowest p 0 n)) empty
 
-  pub lookup-lowest : lookup n (countedSet p n) ≡ lookupOf
+  pub lookup-lowest : lookup n 0 (countedSet p n) ≡ lookupOf
   lookup-lowest = ⊎-elim
-      (λ l. lookup-at p n (lowest p 0 n) l (lowest-here l) lowest-before ∙ sym (found l))
-      (λ l. lookup-empty p n (lowest-none l) ∙ sym (lost l))
+      (λ l. lookup-at p n 0 (lowest p 0 n) (omega arith) l (lowest-here l) lowest-before ∙ sym (found l))
+      (λ l. lookup-empty p n 0 (lowest-none l) ∙ sym (lost l))
       (below-or (lowest p 0 n) n)
     where
       found : lowest p 0 n < n → lookupOf ≡ at (lowest p 0 n)

@@ -17,18 +17,20 @@ use Rattle.theory.specs.declared.Admission.{Admission}
 use Rattle.theory.specs.declared.Admission.the-variants.{Admitted, Refused}
 use Rattle.theory.specs.declared.Refusal.{Refusal}
 use Rattle.theory.specs.declared.Refusal.the-variants.{BadEntry}
-use Rattle.kept.specs.Tables.{Tables, atomCount, nodeCount, rootCount, rootAt, headAt, bodyAt, sound}
+use Rattle.kept.specs.Tables.{Tables, atomCount, nodeCount, rootCount, rootAt, headAt, bodyAt}
 use Rattle.words.specs.Next.{next}
-use Rattle.kept.specs.Evaluation.{Evaluation}
+use Rattle.kept.specs.Seen.{seenBy}
+use Rattle.kept.specs.Evaluation.{Evaluation, truth}
 use Rattle.kept.specs.Verdict.{Verdict, verdictOf}
-use Rattle.kept.specs.Start.{walkStart}
+use Rattle.kept.specs.Start.{walkStart, lowestEntered}
 use Rattle.kept.specs.Walk.{Walked, ended, broken, walkFrom, keptWalk}
 use Rattle.kept.specs.Check as check
-use Rattle.kept.specs.Check.{entry, nodeEntry, producerEntry, rootEntry, tablesAdmission, freshResult, keptResult, isKept, result}
+use Rattle.kept.specs.Check.{entry, seenEntry, nodeEntry, producerEntry, rootEntry, tablesAdmission, freshResult, keptResult, isKept, result}
 use Rattle.kept.specs.Layout.{image, section, ofWords, written, used, listed}
 use Rattle.kept.specs.LayoutLaws.{Fits, room, section-rest, behind-image, length-image, length-unused, fits-of, fits-fresh}
 use Rattle.kept_laws.specs.FitsLaws.{start-fits}
-use Rattle.kept_laws.specs.WalkEnds.{clear-none, Rises, walk-ends}
+use Rattle.kept_laws.specs.StartChanged.{lowest-most}
+use Rattle.kept_laws.specs.WalkEnds.{Rises, walk-ends}
 use Rattle.kept.specs.Candidate.{Candidate, atomsOf}
 use Rattle.kept.specs.Tests.{tests}
 use Rattle.kept.specs.Outcome.{accepted, refused, Outcome, cleared, concluded, outcomeAt, outcome}
@@ -37,28 +39,28 @@ use Rattle.kept.specs.TestLaws.{lent-long}
 module _ (T : Tables) where
   -- ---- the kept walk
 
-  pub record Ends (ks : List ℕ) (d : Evaluation) : Type 0 where
-    pub rises : Rises T 0 (nodeCount T) ks
+  pub record Ends (J : Interpretation) (e : Evaluation) (ks : List ℕ) (d : Evaluation) : Type 0 where
+    pub rises : Rises T (lowestEntered T J e) (nodeCount T) ks
     pub finished : d .worklist .size ≡ 0
     pub fits : Fits T d
 
   module _ (J : Interpretation) (e : Evaluation) (f : Fits T e) (ks : List ℕ) (d : Evaluation) where
-    from-ends : (o : Option Evaluation) → walkStart T J (atomCount T) e ≡ o → walkFrom T o ≡ ended ks d → Ends ks d
+    from-ends : (o : Option Evaluation) → walkStart T J (atomCount T) e ≡ o → walkFrom T (lowestEntered T J e) o ≡ ended ks d → Ends J e ks d
     from-ends none p h = let z : _≡_ {A = ℕ} 0 1 = cc in absurd (omega arith)
     from-ends (some s) p h =
-        let r = walk-ends T (suc (nodeCount T)) 0 s d ks (clear-none T s (start-fits T J (atomCount T) e s p f)) (omega arith) (omega arith) h in
+        let r = walk-ends T (suc (nodeCount T)) (lowestEntered T J e) s d ks (start-fits T J (atomCount T) e s p f) (lowest-most T J e) (omega arith) h in
         record { rises = r .0; finished = r .1; fits = r .2 }
 
-    pub kept-ends : keptWalk T J e ≡ ended ks d → Ends ks d
+    pub kept-ends : keptWalk T J e ≡ ended ks d → Ends J e ks d
     unfolding keptWalk
     kept-ends h = go (ltb (next 32 (e .candidate) (atomCount T)) (32 * length (e .candidate))) h
       where
-        go : (b : Bool) → cond b (broken 0) (walkFrom T (walkStart T J (atomCount T) e)) ≡ ended ks d → Ends ks d
+        go : (b : Bool) → cond b (broken 0) (walkFrom T (lowestEntered T J e) (walkStart T J (atomCount T) e)) ≡ ended ks d → Ends J e ks d
         go true h = let z : _≡_ {A = ℕ} 0 1 = cc in absurd (omega arith)
         go false h = from-ends (walkStart T J (atomCount T) e) refl h
 
   -- so of any words that are long enough
-  pub kept-ends-words : (J : Interpretation) (ws ks : List ℕ) (d : Evaluation) → listed T ≤ length ws → keptWalk T J (ofWords T ws) ≡ ended ks d → Ends ks d
+  pub kept-ends-words : (J : Interpretation) (ws ks : List ℕ) (d : Evaluation) → listed T ≤ length ws → keptWalk T J (ofWords T ws) ≡ ended ks d → Ends J (ofWords T ws) ks d
   kept-ends-words J ws ks d l h = kept-ends J (ofWords T ws) (fits-of T ws (omega (arith, room T))) ks d h
 
   -- ---- a result: an evaluation that fits, or 17
@@ -75,6 +77,10 @@ module _ (T : Tables) where
       go Admitted p e ih = ih e
       go (Refused s) p e ih = h i r (p ∙ e)
 
+  seen-17 : (k : ℕ) (t : Option Bool) (r : Refusal) → seenEntry k t ≡ Refused r → Is17 r
+  seen-17 k none r e = (k, cc)
+  seen-17 k (some t) r e = absurd (not-both r (sym e))
+
   entry-17 : (b : Bool) (place : ℕ) (r : Refusal) → entry b place ≡ Refused r → Is17 r
   entry-17 true place r e = absurd (not-both r (sym e))
   entry-17 false place r e = (place, cc)
@@ -83,11 +89,11 @@ module _ (T : Tables) where
   or-else-17 Admitted b r p q e = q e
   or-else-17 (Refused s) b r p q e = p e
 
-  tables-17 : (r : Refusal) → tablesAdmission T ≡ Refused r → Is17 r
+  tables-17 : (J : Interpretation) (r : Refusal) → tablesAdmission T J ≡ Refused r → Is17 r
   unfolding tablesAdmission nodeEntry producerEntry rootEntry
-  tables-17 r =
-      or-else-17 (firstRefusal (nodeEntry T) 0 (nodeCount T)) (orElse (firstRefusal (producerEntry T) 0 (T .made)) (firstRefusal (rootEntry T) 0 (rootCount T))) r
-      (first-17 (nodeEntry T) (λ k s. entry-17 (sound T k) k s) 0 (nodeCount T) r)
+  tables-17 J r =
+      or-else-17 (firstRefusal (nodeEntry T J) 0 (nodeCount T)) (orElse (firstRefusal (producerEntry T) 0 (T .made)) (firstRefusal (rootEntry T) 0 (rootCount T))) r
+      (first-17 (nodeEntry T J) (λ k s. seen-17 k (seenBy T J (truth T J) k) s) 0 (nodeCount T) r)
       (or-else-17 (firstRefusal (producerEntry T) 0 (T .made)) (firstRefusal (rootEntry T) 0 (rootCount T)) r
       (first-17 (producerEntry T) (λ p s. entry-17 (ltb (headAt T p) (atomCount T) && leb (bodyAt T p) (nodeCount T)) 0 s) 0 (T .made) r)
       (first-17 (rootEntry T) (λ p s. entry-17 (ltb (rootAt T p) (nodeCount T)) 0 s) 0 (rootCount T) r))
@@ -106,19 +112,19 @@ module _ (T : Tables) where
       go (some v) = kept-ends J e f ks d h .fits
   kept-sound J e f (broken place) h = (place, refl)
 
-  fresh-sound : (J : Interpretation) (a : Admission) → tablesAdmission T ≡ a → Sound (freshResult T J a)
+  fresh-sound : (J : Interpretation) (a : Admission) → tablesAdmission T J ≡ a → Sound (freshResult T J a)
   unfolding freshResult
   fresh-sound J Admitted h = fits-fresh T J
-  fresh-sound J (Refused r) h = tables-17 r h
+  fresh-sound J (Refused r) h = tables-17 J r h
 
   pub result-sound : (floor divisor : ℕ) (J : Interpretation) (e : Evaluation) → Fits T e → Sound (result floor divisor T J e)
   unfolding result
   result-sound floor divisor J e f = go (ltb (rootCount T) (T .made)) (isKept floor divisor T J e)
     where
-      go : (a b : Bool) → Sound (cond a (check.refused (BadEntry 0)) (cond b (keptResult T (keptWalk T J e)) (freshResult T J (tablesAdmission T))))
+      go : (a b : Bool) → Sound (cond a (check.refused (BadEntry 0)) (cond b (keptResult T (keptWalk T J e)) (freshResult T J (tablesAdmission T J))))
       go true b = (0, refl)
       go false true = kept-sound J e f (keptWalk T J e) refl
-      go false false = fresh-sound J (tablesAdmission T) refl
+      go false false = fresh-sound J (tablesAdmission T J) refl
 
   -- ---- an outcome
 

@@ -15,7 +15,7 @@ use Rattle.kept.specs.CountedSetLaws.{unlike-same}
 use Rattle.kept.specs.Evaluation.{Evaluation}
 use Rattle.kept.specs.Parts.{withWorklist}
 use Rattle.kept.specs.Step.{fault, idle, settled, seen, stepAt, step}
-use Rattle.kept.specs.Tables.{Tables, nodeCount, sound}
+use Rattle.kept.specs.Tables.{Tables, nodeCount}
 
 -- ---- a count within 0 and most
 
@@ -65,37 +65,41 @@ module _ (n : ℕ) (s : CountedSet) (i : ℕ) where
   pub member-gone : member 32 (s .members) i ≡ true → s .size ≡ 0 → withMember n s i false ≡ none
   member-gone e z = turned false (rw e) none (rw z (moved-empty n))
 
--- ---- the lowest member
+-- ---- the lowest member from i on
 
-module _ (n : ℕ) (s : CountedSet) where
-  pub lookup-none : s .size ≡ 0 → lookup n s ≡ empty
+module _ (n i : ℕ) (s : CountedSet) where
+  pub lookup-none : s .size ≡ 0 → lookup n i s ≡ empty
   unfolding lookup
   lookup-none e = rw (eq-eqb (s .size) 0 e)
 
-  pub lookup-found : (s .size ≡ 0 → ⊥) → next 32 (s .members) 0 < n → lookup n s ≡ at (next 32 (s .members) 0)
+  pub lookup-found : (s .size ≡ 0 → ⊥) → next 32 (s .members) i < n → lookup n i s ≡ at (next 32 (s .members) i)
   unfolding lookup
-  lookup-found e l = rw (ne-eqb (s .size) 0 e, lt-ltb (next 32 (s .members) 0) n l)
+  lookup-found e l = rw (ne-eqb (s .size) 0 e, lt-ltb (next 32 (s .members) i) n l)
 
-  pub lookup-astray : (s .size ≡ 0 → ⊥) → n ≤ next 32 (s .members) 0 → lookup n s ≡ astray
+  pub lookup-astray : (s .size ≡ 0 → ⊥) → n ≤ next 32 (s .members) i → lookup n i s ≡ astray
   unfolding lookup
-  lookup-astray e l = rw (ne-eqb (s .size) 0 e, le-ltb (next 32 (s .members) 0) n l)
+  lookup-astray e l = rw (ne-eqb (s .size) 0 e, le-ltb (next 32 (s .members) i) n l)
 
 -- ---- a step
 
-module _ (T : Tables) (e : Evaluation) where
-  pub step-idle : lookup (nodeCount T) (e .worklist) ≡ empty → step T e ≡ idle
+module _ (T : Tables) (i : ℕ) (e : Evaluation) where
+  pub step-idle : lookup (nodeCount T) i (e .worklist) ≡ empty → step T i e ≡ idle
   unfolding step stepAt
   step-idle h = rw h
 
-  pub step-astray : lookup (nodeCount T) (e .worklist) ≡ astray → step T e ≡ fault 0
+  pub step-astray : lookup (nodeCount T) i (e .worklist) ≡ astray → step T i e ≡ fault 0
   unfolding step stepAt
   step-astray h = rw h
 
-  pub step-unsound : (k : ℕ) → lookup (nodeCount T) (e .worklist) ≡ at k → sound T k ≡ false → step T e ≡ fault k
+  pub step-unseen : (k : ℕ) → lookup (nodeCount T) i (e .worklist) ≡ at k → seen T e k ≡ none → step T i e ≡ fault k
   unfolding step stepAt
-  step-unsound k h s = rw (h, s)
+  step-unseen k h s = rw (h, s)
 
-  pub step-sound : (k : ℕ) (w : CountedSet) → lookup (nodeCount T) (e .worklist) ≡ at k → sound T k ≡ true → withMember (nodeCount T) (e .worklist) k false ≡ some w
-      → step T e ≡ settled T k (seen T e k) (withWorklist e w)
+  pub step-seen : (k : ℕ) (t : Bool) (w : CountedSet) → lookup (nodeCount T) i (e .worklist) ≡ at k → seen T e k ≡ some t → withMember (nodeCount T) (e .worklist) k false ≡ some w
+      → step T i e ≡ settled T k t (withWorklist e w)
   unfolding step stepAt
-  step-sound k w h s o = rw (h, s, o)
+  step-seen k t w h s o = rw (h, s, o)
+
+  pub step-full : (k : ℕ) (t : Bool) → lookup (nodeCount T) i (e .worklist) ≡ at k → seen T e k ≡ some t → withMember (nodeCount T) (e .worklist) k false ≡ none → step T i e ≡ fault k
+  unfolding step stepAt
+  step-full k t h s o = rw (h, s, o)

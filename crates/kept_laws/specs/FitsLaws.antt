@@ -17,7 +17,7 @@ use Rattle.readers.specs.declared.Reading.the-variants.{Node, Producer, Root, U
 use Rattle.readers.specs.Reader.{readingOf}
 use Rattle.kept_laws.specs.OptionLaws.{some-is, if-some, then-some}
 use Rattle.kept.specs.CountedSet.{andThen, CountedSet, moved, withBit, withMember, Lookup, empty, astray, at, lookup}
-use Rattle.kept.specs.Tables.{Tables, atomCount, nodeCount, rootCount, headAt, sound, readersAt, atomNodesAt}
+use Rattle.kept.specs.Tables.{Tables, atomCount, nodeCount, rootCount, headAt, readersAt, atomNodesAt}
 use Rattle.kept.specs.Evaluation.{Evaluation, truthAt, present, truthWord}
 use Rattle.kept.specs.Parts.{withTruths, withWorklist, withSupport, withCandidate, withFalseRoots}
 use Rattle.kept.specs.Step.{entered, supportMoved, rootTurned, readerUpdated, readersUpdated, took, fault, tookAt, settled, settledFrom, seen, stepAt, step}
@@ -119,45 +119,42 @@ module _ (T : Tables) where
           (p .0, told (q .0) (q .2))
       go false h = let i : e ≡ d = cc in (cc, rw i at same)
 
-  -- node k was found, sound and taken off the worklist
-  pub record Taken (e : Evaluation) (m : ℕ) (d : Evaluation) : Type 0 where
-    pub found : lookup (nodeCount T) (e .worklist) ≡ at m
-    pub formed : sound T m ≡ true
+  -- node m was found, its truth seen, and it was taken off the worklist
+  pub record Taken (i : ℕ) (e : Evaluation) (m : ℕ) (d : Evaluation) : Type 0 where
+    pub found : lookup (nodeCount T) i (e .worklist) ≡ at m
+    pub truth : Bool
+    pub known : seen T e m ≡ some truth
     pub left : CountedSet
     pub off : withMember (nodeCount T) (e .worklist) m false ≡ some left
-    pub rest : settled T m (seen T e m) (withWorklist e left) ≡ took m d
+    pub rest : settled T m truth (withWorklist e left) ≡ took m d
 
-  pub taken : (e : Evaluation) (m : ℕ) (d : Evaluation) → step T e ≡ took m d → Taken e m d
+  pub taken : (i : ℕ) (e : Evaluation) (m : ℕ) (d : Evaluation) → step T i e ≡ took m d → Taken i e m d
   unfolding step stepAt
-  taken e m d h = go (lookup (nodeCount T) (e .worklist)) refl h
+  taken i e m d h = go (lookup (nodeCount T) i (e .worklist)) refl h
     where
-      whole : (k : ℕ) → lookup (nodeCount T) (e .worklist) ≡ at k → sound T k ≡ true → (w : CountedSet) → withMember (nodeCount T) (e .worklist) k false ≡ some w
-          → settled T k (seen T e k) (withWorklist e w) ≡ took m d → k ≡ m → Taken e m d
-      whole k p s w o h i =
-          let made : Taken e k d → Taken e m d = λ x. rw i at x in
-          made (record { found = p; formed = s; left = w; off = o; rest = h ∙ ap (λ j. took j d) (sym i) })
+      whole : (k : ℕ) → lookup (nodeCount T) i (e .worklist) ≡ at k → (t : Bool) → seen T e k ≡ some t → (w : CountedSet) → withMember (nodeCount T) (e .worklist) k false ≡ some w
+          → settled T k t (withWorklist e w) ≡ took m d → k ≡ m → Taken i e m d
+      whole k p t s w o h q =
+          let made : Taken i e k d → Taken i e m d = λ x. rw q at x in
+          made (record { found = p; truth = t; known = s; left = w; off = o; rest = h ∙ ap (λ j. took j d) (sym q) })
 
-      leave : (k : ℕ) → lookup (nodeCount T) (e .worklist) ≡ at k → sound T k ≡ true → (o : Option CountedSet) → withMember (nodeCount T) (e .worklist) k false ≡ o
-          → settledFrom T k (seen T e k) e o ≡ took m d → Taken e m d
-      leave k p s none o h = let z : _≡_ {A = ℕ} 0 1 = cc in absurd (omega arith)
-      leave k p s (some w) o h = whole k p s w o h (settled-cases k m (seen T e k) (withWorklist e w) d h (λ y. Unit {0}) tt (λ xs y. tt) .0)
+      leave : (k : ℕ) → lookup (nodeCount T) i (e .worklist) ≡ at k → (b : Option Bool) → seen T e k ≡ b → (o : Option CountedSet) → withMember (nodeCount T) (e .worklist) k false ≡ o
+          → settledFrom T k e b o ≡ took m d → Taken i e m d
+      leave k p none s o q h = let z : _≡_ {A = ℕ} 0 1 = cc in absurd (omega arith)
+      leave k p (some t) s none q h = let z : _≡_ {A = ℕ} 0 1 = cc in absurd (omega arith)
+      leave k p (some t) s (some w) q h = whole k p t s w q h (settled-cases k m t (withWorklist e w) d h (λ y. Unit {0}) tt (λ xs y. tt) .0)
 
-      sure : (k : ℕ) → lookup (nodeCount T) (e .worklist) ≡ at k → (b : Bool) → sound T k ≡ b
-          → cond b (settledFrom T k (seen T e k) e (withMember (nodeCount T) (e .worklist) k false)) (fault k) ≡ took m d → Taken e m d
-      sure k p true s h = leave k p s (withMember (nodeCount T) (e .worklist) k false) refl h
-      sure k p false s h = let z : _≡_ {A = ℕ} 0 1 = cc in absurd (omega arith)
-
-      go : (l : Lookup) → lookup (nodeCount T) (e .worklist) ≡ l → stepAt T e l ≡ took m d → Taken e m d
+      go : (l : Lookup) → lookup (nodeCount T) i (e .worklist) ≡ l → stepAt T e l ≡ took m d → Taken i e m d
       go empty p h = let z : _≡_ {A = ℕ} 0 1 = cc in absurd (omega arith)
       go astray p h = let z : _≡_ {A = ℕ} 0 1 = cc in absurd (omega arith)
-      go (at k) p h = sure k p (sound T k) refl h
+      go (at k) p h = leave k p (seen T e k) refl (withMember (nodeCount T) (e .worklist) k false) refl h
 
-  pub step-fits : (e : Evaluation) (m : ℕ) (d : Evaluation) → step T e ≡ took m d → Fits T e → Fits T d
-  step-fits e m d h f =
-      let t = taken e m d h in
+  pub step-fits : (i : ℕ) (e : Evaluation) (m : ℕ) (d : Evaluation) → step T i e ≡ took m d → Fits T e → Fits T d
+  step-fits i e m d h f =
+      let t = taken i e m d h in
       let g : Fits T (withWorklist e (t .left)) = worklist-fits e (t .left) (length-members (nodeCount T) (e .worklist) m false (t .left) (t .off)) f in
-      settled-cases m m (seen T e m) (withWorklist e (t .left)) d (t .rest) (Fits T) g
-      (λ xs y. readers-fit m (seen T e m) (withTruths (withWorklist e (t .left)) (set (e .truths) m (truthWord (seen T e m)))) d xs y (truths-fit (withWorklist e (t .left)) m (truthWord (seen T e m)) g)) .1
+      settled-cases m m (t .truth) (withWorklist e (t .left)) d (t .rest) (Fits T) g
+      (λ xs y. readers-fit m (t .truth) (withTruths (withWorklist e (t .left)) (set (e .truths) m (truthWord (t .truth)))) d xs y (truths-fit (withWorklist e (t .left)) m (truthWord (t .truth)) g)) .1
 
   -- ---- the start
 
