@@ -8,3 +8,6 @@ pub mod StartChanged
 pub mod Filling
 pub mod Halves
 pub mod Turns
+pub mod Written
+pub mod Wrote
+pub mod Given

@@ -1,0 +1,81 @@
+-- Tables of which a call is lent a part, whatever the rest of T is; and where a kept evaluation's sections stand, by the counts alone.
+-- Assumes nothing.
+use Prim.Native.Nat.{ℕ, _+_}
+use mathlib.Core.List.{List}
+use Rattle.theory.specs.declared.Counts.{Counts}
+use Rattle.kept.specs.SetOf.{words32}
+use Rattle.kept.specs.Tables.{Tables}
+
+abbrev pub worklistAt : Counts → ℕ
+worklistAt t = 16 + t .nodes
+
+abbrev pub supportAt : Counts → ℕ
+supportAt t = worklistAt t + words32 (t .nodes)
+
+abbrev pub candidateAt : Counts → ℕ
+candidateAt t = supportAt t + t .atoms
+
+abbrev pub missingAt : Counts → ℕ
+missingAt t = candidateAt t + words32 (t .atoms)
+
+abbrev pub falseRootsAt : Counts → ℕ
+falseRootsAt t = missingAt t + words32 (t .atoms)
+
+abbrev pub usedBy : Counts → ℕ
+usedBy t = falseRootsAt t + words32 (t .roots)
+
+-- the counts
+abbrev pub sized : Counts → Tables → Tables
+sized t T =
+    record {
+      counts = t;
+      plan = T .plan;
+      made = T .made;
+      nodes = T .nodes;
+      operands = T .operands;
+      roots = T .roots;
+      producers = T .producers;
+      readers = T .readers;
+    }
+
+-- the counts, the number of producers and these
+abbrev pub produced : Counts → ℕ → List ℕ → Tables → Tables
+produced t made producers T =
+    record {
+      counts = t;
+      plan = T .plan;
+      made = made;
+      nodes = T .nodes;
+      operands = T .operands;
+      roots = T .roots;
+      producers = producers;
+      readers = T .readers;
+    }
+
+-- the counts and the reader table
+abbrev pub listed : Counts → List ℕ → Tables → Tables
+listed t readers T =
+    record {
+      counts = t;
+      plan = T .plan;
+      made = T .made;
+      nodes = T .nodes;
+      operands = T .operands;
+      roots = T .roots;
+      producers = T .producers;
+      readers = readers;
+    }
+
+-- all that a step reads
+abbrev pub walked : Counts → ℕ → List ℕ → List ℕ → List ℕ → List ℕ → Tables → Tables
+walked t made nodes operands producers readers T =
+    record {
+      counts = t;
+      plan = T .plan;
+      made = made;
+      nodes = nodes;
+      operands = operands;
+      roots = T .roots;
+      producers = producers;
+      readers = readers;
+    }

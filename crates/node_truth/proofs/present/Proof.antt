@@ -1,0 +1,60 @@
+use borrow.Author.Needs.{needs}
+use Rattle.node_truth.proofs.present.Statement.{statement}
+use Rattle.node_truth.proofs.present.Tie as tie
+use Rattle.node_truth.proofs.present.Reads as reads
+use Rattle.node_truth.proofs.present.Lts as lts
+
+-- src/lib.rt:42:14
+add-at : tie.Need-add-at
+add-at c = search needs
+
+-- src/lib.rt:42:24
+add-at-2 : tie.Need-add-at-2
+add-at-2 c = search needs
+
+-- src/lib.rt:42:14
+add-at-3 : tie.Need-add-at-3
+add-at-3 c = search needs
+
+-- src/lib.rt:42:14
+add-at-4 : tie.Need-add-at-4
+add-at-4 c = search needs
+
+-- src/lib.rt:42:14
+add-at-5 : tie.Need-add-at-5
+add-at-5 c = search needs
+
+-- src/lib.rt:43:6
+mul-result : tie.Need-mul-result
+mul-result c = search needs
+
+-- src/lib.rt:43:6
+shared-slice-read-result : tie.Need-shared-slice-read-result
+shared-slice-read-result c = search needs
+
+-- src/lib.rt:43:19
+cast-result : tie.Need-cast-result
+cast-result c = search needs
+
+-- src/lib.rt:43:6
+shr-result : tie.Need-shr-result
+shr-result c = search needs
+
+-- src/lib.rt:37:1
+returns : tie.Need-returns
+returns c = ?
+
+pub present-spec : {M : Type 1} → statement M
+present-spec =
+    tie.close
+    (tie.spec
+    add-at
+    add-at-2
+    add-at-3
+    add-at-4
+    add-at-5
+    mul-result
+    shared-slice-read-result
+    cast-result
+    shr-result
+    returns)

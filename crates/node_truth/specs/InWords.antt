@@ -1,0 +1,32 @@
+-- What the words of a kept evaluation say of a node and of an atom, and the cases of `Seen`.
+-- Assumes nothing.
+use Prim.Native.Nat.{ℕ, _+_, _/_, _%_}
+use mathlib.Core.Bool.{Bool, true, false, not, cond}
+use mathlib.Core.List.{List}
+use mathlib.Core.Option.{Option, some, none}
+use lib.Dec.{eqb, leb}
+use lib.ListN.{getD}
+use Rattle.theory.specs.Node.{span}
+use Rattle.theory.specs.declared.Counts.{Counts}
+use Rattle.words.specs.Bit.{bit}
+use Rattle.kept.specs.Seen.{groupSeen}
+use Rattle.kept_laws.specs.Given.{candidateAt}
+use Rattle.node_truth.specs.declared.Seen.{Seen}
+use Rattle.node_truth.specs.declared.Seen.the-variants.{True, False, Stray}
+
+abbrev pub seenOf : Seen → Option Bool
+seenOf True = some true
+seenOf False = some false
+seenOf Stray = none
+
+-- node o is true
+unfoldable pub trueIn : List ℕ → ℕ → Bool
+trueIn ws o = not (eqb (getD ws (16 + o) 0) 0)
+
+-- atom a is in the candidate
+unfoldable pub presentIn : Counts → List ℕ → ℕ → Bool
+presentIn t ws a = bit (getD ws (candidateAt t + a / 32) 0) (a % 32)
+
+-- And or Or, in a table of `size` entries
+unfoldable pub spanSeen : ℕ → ℕ → (ℕ → Bool) → Bool → List ℕ → ℕ → ℕ → Option Bool
+spanSeen size k v d operands start count = cond (leb (start + count) size) (groupSeen k v d (span operands start count)) none

@@ -1,0 +1,118 @@
+// The truth of a node as a check reads it, from the words of a kept evaluation: `node_truth!` of tight/evaluate.rs.
+ghost use mathlib.Core.Path.{_≡_};
+ghost use mathlib.Core.Bool.{not};
+ghost use mathlib.Core.Option.{some};
+ghost use Prim.Native.Nat.{_+_, _*_, _<_, _≤_};
+ghost use lib.ListN.{length};
+ghost use Rattle.theory.specs.Limits.{Limited};
+ghost use Rattle.theory.specs.Node.{nodeAt, span};
+ghost use Rattle.kept.specs.Seen.{groupSeen, nodeSeen};
+ghost use Rattle.kept_laws.specs.Given.{usedBy};
+ghost use Rattle.node_truth.specs.InWords.{seenOf, trueIn, presentIn, spanSeen};
+use theory::Counts;
+use theory::Node;
+
+// A node's truth. Stray: an entry met there is outside its table, or an operand is not below the node.
+pub enum Seen {
+    True,
+    False,
+    Stray,
+}
+
+fn known(holds: bool) -> Seen
+    ensures { λ r. ⌜ seenOf r ≡ some holds ⌝ }
+{
+    if holds { Seen::True } else { Seen::False }
+}
+
+// Whether node o is true.
+pub fn holds(kept: &[u32], o: usize) -> bool
+    requires { ⌜ 16 + o < length (now kept) ⌝ }
+    ensures { λ r. ⌜ r ≡ trueIn (now (kept .entry)) o ⌝ }
+{
+    kept[16 + o] != 0
+}
+
+// Whether atom a is in the candidate.
+pub fn present(counts: Counts, kept: &[u32], a: usize) -> bool
+    requires { ⌜ Limited counts × (a < counts .atoms) × (usedBy counts ≤ length (now kept)) ⌝ }
+    ensures { λ r. ⌜ r ≡ presentIn counts (now (kept .entry)) a ⌝ }
+{
+    let n = counts.nodes;
+    let at = 16 + n + (n + 31) / 32 + counts.atoms + a / 32;
+    (kept[at] >> (a % 32)) % 2 == 1
+}
+
+// And or Or: operands are met up to the first whose truth decides.
+fn group_truth(
+    operands: &[u32],
+    kept: &[u32],
+    k: usize,
+    start: usize,
+    count: usize,
+    decisive: bool,
+) -> Seen
+    requires { ⌜ (start + count ≤ length (now operands)) × (16 + k ≤ length (now kept)) ⌝ }
+    ensures { λ r. ⌜ seenOf r ≡ groupSeen k (trueIn (now (kept .entry))) decisive (span (now (operands .entry)) start count) ⌝ }
+{
+    let end = start + count;
+    let mut i = start;
+    while i < end {
+        let o = words::word(operands, i);
+        if o >= k {
+            return Seen::Stray;
+        }
+        if holds(kept, o) == decisive {
+            return known(decisive);
+        }
+        i += 1;
+    }
+    known(!decisive)
+}
+
+// The same of a span that may pass the table of `size` entries.
+fn span_truth(
+    operands: &[u32],
+    size: usize,
+    kept: &[u32],
+    k: usize,
+    start: usize,
+    count: usize,
+    decisive: bool,
+) -> Seen
+    requires { ⌜ (size ≤ length (now operands)) × (start < 4294967296) × (count < 4294967296) × (16 + k ≤ length (now kept)) ⌝ }
+    ensures { λ r. ⌜ seenOf r ≡ spanSeen size k (trueIn (now (kept .entry))) decisive (now (operands .entry)) start count ⌝ }
+{
+    if start + count > size {
+        return Seen::Stray;
+    }
+    group_truth(operands, kept, k, start, count, decisive)
+}
+
+// Node k.
+pub fn node_truth(counts: Counts, nodes: &[u32], operands: &[u32], kept: &[u32], k: usize) -> Seen
+    requires { ⌜ Limited counts × (k < counts .nodes) × (3 * counts .nodes ≤ length (now nodes)) × (counts .operands ≤ length (now operands)) × (usedBy counts ≤ length (now kept)) ⌝ }
+    ensures { λ r. ⌜ seenOf r ≡ nodeSeen counts (now (operands .entry)) (presentIn counts (now (kept .entry))) (trueIn (now (kept .entry))) k (nodeAt (now (nodes .entry)) k) ⌝ }
+{
+    match theory::view(nodes, k) {
+        Node::Atom(a) => {
+            if a >= counts.atoms {
+                return Seen::Stray;
+            }
+            known(present(counts, kept, a))
+        }
+        Node::False => Seen::False,
+        Node::Implies(left, right) => {
+            if left >= k {
+                return Seen::Stray;
+            }
+            if right >= k {
+                return Seen::Stray;
+            }
+            known(!holds(kept, left) || holds(kept, right))
+        }
+        Node::And(s, c) => span_truth(operands, counts.operands, kept, k, s, c, false),
+        Node::Or(s, c) => span_truth(operands, counts.operands, kept, k, s, c, true),
+        Node::Unknown => Seen::Stray,
+    }
+}
