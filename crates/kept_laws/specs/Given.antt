@@ -38,6 +38,20 @@ sized t T =
       readers = T .readers;
     }
 
+-- the counts and the number of producers
+abbrev pub supplied : Counts → ℕ → Tables → Tables
+supplied t made T =
+    record {
+      counts = t;
+      plan = T .plan;
+      made = made;
+      nodes = T .nodes;
+      operands = T .operands;
+      roots = T .roots;
+      producers = T .producers;
+      readers = T .readers;
+    }
+
 -- the counts, the number of producers and these
 abbrev pub produced : Counts → ℕ → List ℕ → Tables → Tables
 produced t made producers T =

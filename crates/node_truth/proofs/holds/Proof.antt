@@ -1,3 +1,5 @@
+use mathlib.Core.Path.{refl}
+use Rattle.node_truth.specs.InWords.{trueIn}
 use borrow.Author.Needs.{needs}
 use Rattle.node_truth.proofs.holds.Statement.{statement}
 use Rattle.node_truth.proofs.holds.Tie as tie
@@ -18,7 +20,8 @@ shared-slice-read-result c = search needs
 
 -- src/lib.rt:29:1
 returns : tie.Need-returns
-returns c = ?
+unfolding trueIn
+returns c = refl
 
 pub holds-spec : {M : Type 1} → statement M
 holds-spec = tie.close (tie.spec add-result mul-result shared-slice-read-result returns)

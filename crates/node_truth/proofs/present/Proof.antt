@@ -1,3 +1,6 @@
+use mathlib.Core.Path.{refl}
+use Rattle.words.specs.Bit.{bit}
+use Rattle.node_truth.specs.InWords.{presentIn}
 use borrow.Author.Needs.{needs}
 use Rattle.node_truth.proofs.present.Statement.{statement}
 use Rattle.node_truth.proofs.present.Tie as tie
@@ -42,7 +45,8 @@ shr-result c = search needs
 
 -- src/lib.rt:37:1
 returns : tie.Need-returns
-returns c = ?
+unfolding presentIn bit
+returns c = refl
 
 pub present-spec : {M : Type 1} → statement M
 present-spec =

@@ -1,0 +1,30 @@
+-- The parts of a step and of the walk's start that one call makes.
+-- Assumes nothing.
+use Prim.Native.Nat.{ℕ}
+use mathlib.Core.Bool.{Bool, false, _&&_}
+use mathlib.Core.Option.{Option, some, none}
+use lib.Dec.{eqb}
+use lib.ListN.{getD}
+use Rattle.kept.specs.CountedSet.{andThen, withBit, withMember}
+use Rattle.kept.specs.Tables.{Tables, atomCount, nodeCount}
+use Rattle.kept.specs.Evaluation.{Evaluation}
+use Rattle.retained.specs.declared.Count.{Count}
+use Rattle.retained.specs.declared.Count.the-variants.{Now, Astray}
+use Rattle.kept.specs.Parts.{withWorklist, withSupport, withCandidate}
+
+-- node k off the worklist
+unfoldable pub dequeued : Tables → ℕ → Evaluation → Option Evaluation
+dequeued T k e = andThen (withMember (nodeCount T) (e .worklist) k false) (λ w. some (withWorklist e w))
+
+-- atom a missing or not
+unfoldable pub missingTurned : Tables → ℕ → Bool → Evaluation → Option Evaluation
+missingTurned T a x e = andThen (withMember (atomCount T) (e .missing) a x) (λ m. some (withSupport e (e .support) m))
+
+-- atom a in the candidate or not, and missing by its support
+unfoldable pub presenceTurned : Tables → ℕ → Bool → Evaluation → Option Evaluation
+presenceTurned T a x e =
+    andThen (withMember (atomCount T) (e .missing) a (x && eqb (getD (e .support) a 0) 0)) (λ m. some (withCandidate e (withBit (e .candidate) a x) m))
+
+abbrev pub countOf : Count → Option ℕ
+countOf (Now n) = some n
+countOf Astray = none

@@ -1,0 +1,4 @@
+pub mod Member
+pub mod Changes
+pub mod MemberLaws
+pub mod PresenceLaws

@@ -1,0 +1,172 @@
+// Changes of a kept evaluation in its lent words: `queue`, `presence`, `support` and `root` of tight/evaluate.rs. Each answers false where a count would leave its range.
+ghost use mathlib.Core.Path.{_≡_};
+ghost use mathlib.Core.Bool.{true, false};
+ghost use Prim.Native.Nat.{_+_, _/_, _<_, _≤_};
+ghost use lib.ListN.{length};
+ghost use Rattle.theory.specs.Limits.{Limited};
+ghost use Rattle.kept.specs.CountedSet.{moved};
+ghost use Rattle.kept.specs.Tables.{Tables};
+ghost use Rattle.kept.specs.Layout.{ofWords};
+ghost use Rattle.kept.specs.Step.{entered, supportMoved, rootTurned};
+ghost use Rattle.kept_laws.specs.Given.{usedBy, sized, supplied};
+ghost use Rattle.kept_laws.specs.Wrote.{Wrote};
+ghost use Rattle.retained.specs.Member.{Put, bitPut, memberPut};
+ghost use Rattle.retained.specs.Changes.{countOf, missingTurned, presenceTurned, dequeued};
+use theory::Counts;
+
+// A count after a change. Astray: it would have left its range.
+pub enum Count {
+    Now(usize),
+    Astray,
+}
+
+// i becomes a member of the set whose words begin at `at` and whose count, `most` at most, is word `size`.
+pub fn include(kept: &mut [u32], at: usize, size: usize, most: usize, i: usize) -> bool
+    requires { ⌜ (at + i / 32 < length (now kept)) × (size < length (now kept)) × (most < 4294967296) ⌝ }
+    ensures { λ r. ⌜ Put (now (kept .entry)) (memberPut at size most i true (now (kept .entry))) r (now (kept .exit)) ⌝ }
+{
+    let q = at + i / 32;
+    let word = kept[q];
+    if (word >> (i % 32)) % 2 == 1 {
+        return true;
+    }
+    let n = words::word(kept, size);
+    if n >= most {
+        return false;
+    }
+    kept[q] = word | (1u32 << (i % 32));
+    kept[size] = (n + 1) as u32;
+    true
+}
+
+// i becomes none.
+pub fn exclude(kept: &mut [u32], at: usize, size: usize, most: usize, i: usize) -> bool
+    requires { ⌜ (at + i / 32 < length (now kept)) × (size < length (now kept)) ⌝ }
+    ensures { λ r. ⌜ Put (now (kept .entry)) (memberPut at size most i false (now (kept .entry))) r (now (kept .exit)) ⌝ }
+{
+    let q = at + i / 32;
+    let word = kept[q];
+    if (word >> (i % 32)) % 2 != 1 {
+        return true;
+    }
+    let n = words::word(kept, size);
+    if n == 0 {
+        return false;
+    }
+    let m = 1u32 << (i % 32);
+    kept[q] = (word | m) ^ m;
+    kept[size] = (n - 1) as u32;
+    true
+}
+
+fn turn(kept: &mut [u32], at: usize, size: usize, most: usize, i: usize, x: bool) -> bool
+    requires { ⌜ (at + i / 32 < length (now kept)) × (size < length (now kept)) × (most < 4294967296) ⌝ }
+    ensures { λ r. ⌜ Put (now (kept .entry)) (memberPut at size most i x (now (kept .entry))) r (now (kept .exit)) ⌝ }
+{
+    if x {
+        include(kept, at, size, most, i)
+    } else {
+        exclude(kept, at, size, most, i)
+    }
+}
+
+// Node m onto the worklist.
+pub fn queue(counts: Counts, kept: &mut [u32], m: usize) -> bool
+    requires { ⌜ Limited counts × (m < counts .nodes) × (usedBy counts ≤ length (now kept)) ⌝ }
+    ensures { λ r. ⌜ ((T : Tables) → Wrote (sized counts T) (now (kept .entry)) (entered (sized counts T) m (ofWords (sized counts T) (now (kept .entry)))) r (now (kept .exit))) ⌝ }
+{
+    include(kept, 16 + counts.nodes, 4, counts.nodes, m)
+}
+
+// Node m off the worklist.
+pub fn dequeue(counts: Counts, kept: &mut [u32], m: usize) -> bool
+    requires { ⌜ Limited counts × (m < counts .nodes) × (usedBy counts ≤ length (now kept)) ⌝ }
+    ensures { λ r. ⌜ ((T : Tables) → Wrote (sized counts T) (now (kept .entry)) (dequeued (sized counts T) m (ofWords (sized counts T) (now (kept .entry)))) r (now (kept .exit))) ⌝ }
+{
+    exclude(kept, 16 + counts.nodes, 4, counts.nodes, m)
+}
+
+// Root position p holds or not.
+pub fn root(counts: Counts, kept: &mut [u32], p: usize, holds: bool) -> bool
+    requires { ⌜ Limited counts × (p < counts .roots) × (usedBy counts ≤ length (now kept)) ⌝ }
+    ensures { λ r. ⌜ ((T : Tables) → Wrote (sized counts T) (now (kept .entry)) (rootTurned (sized counts T) holds p (ofWords (sized counts T) (now (kept .entry)))) r (now (kept .exit))) ⌝ }
+{
+    let n = counts.nodes;
+    let a = counts.atoms;
+    let at = 16 + n + (n + 31) / 32 + a + (a + 31) / 32 + (a + 31) / 32;
+    turn(kept, at, 3, counts.roots, p, !holds)
+}
+
+// Atom a is missing or not.
+pub fn missing(counts: Counts, kept: &mut [u32], a: usize, lacking: bool) -> bool
+    requires { ⌜ Limited counts × (a < counts .atoms) × (usedBy counts ≤ length (now kept)) ⌝ }
+    ensures { λ r. ⌜ ((T : Tables) → Wrote (sized counts T) (now (kept .entry)) (missingTurned (sized counts T) a lacking (ofWords (sized counts T) (now (kept .entry)))) r (now (kept .exit))) ⌝ }
+{
+    let n = counts.nodes;
+    let at = 16 + n + (n + 31) / 32 + counts.atoms + (counts.atoms + 31) / 32;
+    turn(kept, at, 2, counts.atoms, a, lacking)
+}
+
+// Atom a is in the candidate or not, and missing or not by its support.
+pub fn presence(counts: Counts, kept: &mut [u32], a: usize, x: bool) -> bool
+    requires { ⌜ Limited counts × (a < counts .atoms) × (usedBy counts ≤ length (now kept)) ⌝ }
+    ensures { λ r. ⌜ ((T : Tables) → Wrote (sized counts T) (now (kept .entry)) (presenceTurned (sized counts T) a x (ofWords (sized counts T) (now (kept .entry)))) r (now (kept .exit))) ⌝ }
+{
+    let n = counts.nodes;
+    let support = 16 + n + (n + 31) / 32;
+    let lacking = x && kept[support + a] == 0;
+    if !missing(counts, kept, a, lacking) {
+        return false;
+    }
+    mark(kept, support + counts.atoms, a, x);
+    true
+}
+
+// i is in the set whose words begin at `at`, or not.
+fn mark(kept: &mut [u32], at: usize, i: usize, x: bool)
+    requires { ⌜ at + i / 32 < length (now kept) ⌝ }
+    ensures { λ _. ⌜ now (kept .exit) ≡ bitPut at i x (now (kept .entry)) ⌝ }
+{
+    let q = at + i / 32;
+    let word = kept[q];
+    let m = 1u32 << (i % 32);
+    if x {
+        kept[q] = word | m;
+    } else {
+        kept[q] = (word | m) ^ m;
+    }
+}
+
+// The count n of producers with a true body, one up or one down, within 0 and `made`.
+fn counted(n: usize, made: usize, holds: bool) -> Count
+    ensures { λ r. ⌜ countOf r ≡ moved made holds n ⌝ }
+{
+    if holds {
+        if n < made { Count::Now(n + 1) } else { Count::Astray }
+    } else if n == 0 {
+        Count::Astray
+    } else {
+        Count::Now(n - 1)
+    }
+}
+
+// The body of a producer of atom a has become true or false.
+pub fn support(counts: Counts, made: usize, kept: &mut [u32], a: usize, holds: bool) -> bool
+    requires { ⌜ Limited counts × (made ≤ counts .roots) × (a < counts .atoms) × (usedBy counts ≤ length (now kept)) ⌝ }
+    ensures { λ r. ⌜ ((T : Tables) → Wrote (supplied counts made T) (now (kept .entry)) (supportMoved (supplied counts made T) holds a (ofWords (supplied counts made T) (now (kept .entry)))) r (now (kept .exit))) ⌝ }
+{
+    let n = counts.nodes;
+    let at = 16 + n + (n + 31) / 32 + a;
+    let before = words::word(kept, at);
+    match counted(before, made, holds) {
+        Count::Astray => false,
+        Count::Now(m) => {
+            let present = node_truth::present(counts, kept, a);
+            if !missing(counts, kept, a, present && m == 0) {
+                return false;
+            }
+            kept[at] = m as u32;
+            true
+        }
+    }
+}
