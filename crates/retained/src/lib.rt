@@ -142,7 +142,11 @@ fn counted(n: usize, made: usize, holds: bool) -> Count
     ensures { λ r. ⌜ countOf r ≡ moved made holds n ⌝ }
 {
     if holds {
-        if n < made { Count::Now(n + 1) } else { Count::Astray }
+        if n < made {
+            Count::Now(n + 1)
+        } else {
+            Count::Astray
+        }
     } else if n == 0 {
         Count::Astray
     } else {

@@ -1,3 +1,11 @@
+use Rattle.retained.specs.SupportLaws.{moved-small, support-astray, support-none, support-done, lacking-both, lacking-either}
+use Rattle.retained.specs.Changes.{countOf}
+use Rattle.kept_laws.specs.OptionLaws.{not-true, not-false}
+use Rattle.kept_laws.specs.Given.{supplied}
+use Rattle.kept.specs.CountedSet.{moved}
+use native.Mathlib.Omega.{arith}
+use mathlib.Core.Logic.{⊎-elim}
+use mathlib.Core.Path.{_≡_, ap, sym, _∙_}
 use borrow.Author.Needs.{needs}
 use Rattle.retained.proofs.support.Statement.{statement}
 use Rattle.retained.proofs.support.Tie as tie
@@ -54,11 +62,11 @@ same-length c = search needs
 
 -- src/lib.rt:166:17
 returns : tie.Need-returns
-returns c = ?
+returns c = λ T. support-none (supplied (c .before .before .before .before .before .before .before .before .before .before .before .before .before .before .before .args .counts) (c .before .before .before .before .before .before .before .before .before .before .before .before .before .before .before .args .made) T) (c .before .before .before .before .before .before .before .before .before .before .before .before .before .before .before .args .kept .now) (c .before .before .before .before .before .before .before .before .before .before .before .before .before .before .before .pre .3) (c .before .before .before .before .before .before .before .before .before .before .before .before .before .before .before .args .a) (c .before .before .before .before .before .before .before .before .before .before .before .before .before .before .before .pre .2) (c .before .before .before .before .before .before .before .before .before .before .before .before .before .before .before .args .holds) _ (sym (ap countOf (c .before .before .before .before .before .before .before .before .before .m .given .1)) ∙ c .before .before .before .before .before .before .before .before .before .before .before .counted .ensures ∙ ap (moved (c .before .before .before .before .before .before .before .before .before .before .before .before .before .before .before .args .made) (c .before .before .before .before .before .before .before .before .before .before .before .before .before .before .before .args .holds)) (c .before .before .before .before .before .before .before .before .before .before .before .before .word .ensures .0)) _ (⊎-elim (λ p. lacking-both _ _ _ _ (sym (c .before .before .before .before .before .before .present .ensures)) (p .0 .taken) (p .1)) (λ p. lacking-either _ _ _ _ (sym (c .before .before .before .before .before .before .present .ensures)) (p .0 .left) (p .1)) (c .before .before .before .before .if1 .came)) _ _ (c .before .before .before .missing .ensures (supplied (c .before .before .before .before .before .before .before .before .before .before .before .before .before .before .before .args .counts) (c .before .before .before .before .before .before .before .before .before .before .before .before .before .before .before .args .made) T)) (not-true _ (c .if2 .taken))
 
 -- src/lib.rt:168:24
 cast-kept : tie.Need-cast-kept
-cast-kept c = ?
+cast-kept c = ⊎-elim (λ h. omega (arith, h, c .before .before .before .before .before .before .before .before .before .before .before .before .before .before .before .pre .1, c .before .before .before .before .before .before .before .before .before .before .before .before .before .before .before .pre .0 .roots)) (λ h. omega (arith, h, c .before .before .before .before .before .before .before .before .before .before .before .before .word .ensures .1)) (moved-small (c .before .before .before .before .before .before .before .before .before .before .before .before .before .before .before .args .made) (c .before .before .before .before .before .before .before .before .before .before .before .before .before .before .before .args .holds) _ _ (sym (c .before .before .before .before .before .before .before .before .before .before .before .counted .ensures) ∙ ap countOf (c .before .before .before .before .before .before .before .before .before .m .given .1)))
 
 -- src/lib.rt:168:13
 mul-kept : tie.Need-mul-kept
@@ -74,7 +82,7 @@ same-length-2 c = search needs
 
 -- src/lib.rt:154:1
 returns-2 : tie.Need-returns-2
-returns-2 c = ?
+returns-2 c = λ T. support-astray (supplied (c .before .before .before .before .before .before .args .counts) (c .before .before .before .before .before .before .args .made) T) (c .before .before .before .before .before .before .args .kept .now) (c .before .before .before .before .before .before .pre .3) (c .before .before .before .before .before .before .args .a) (c .before .before .before .before .before .before .pre .2) (c .before .before .before .before .before .before .args .holds) (sym (ap countOf (c .enum-told .given .1)) ∙ c .before .before .counted .ensures ∙ ap (moved (c .before .before .before .before .before .before .args .made) (c .before .before .before .before .before .before .args .holds)) (c .before .before .before .word .ensures .0))
 
 -- src/lib.rt:154:1
 same-length-3 : tie.Need-same-length-3
@@ -82,7 +90,7 @@ same-length-3 c = search needs
 
 -- src/lib.rt:154:1
 returns-3 : tie.Need-returns-3
-returns-3 c = ?
+returns-3 c = λ T. support-done (supplied (c .before .before .before .before .before .before .before .before .before .before .before .before .before .before .before .args .counts) (c .before .before .before .before .before .before .before .before .before .before .before .before .before .before .before .args .made) T) (c .before .before .before .before .before .before .before .before .before .before .before .before .before .before .before .args .kept .now) (c .before .before .before .before .before .before .before .before .before .before .before .before .before .before .before .pre .3) (c .before .before .before .before .before .before .before .before .before .before .before .before .before .before .before .args .a) (c .before .before .before .before .before .before .before .before .before .before .before .before .before .before .before .pre .2) (c .before .before .before .before .before .before .before .before .before .before .before .before .before .before .before .args .holds) _ (sym (ap countOf (c .before .before .before .before .before .before .before .before .before .m .given .1)) ∙ c .before .before .before .before .before .before .before .before .before .before .before .counted .ensures ∙ ap (moved (c .before .before .before .before .before .before .before .before .before .before .before .before .before .before .before .args .made) (c .before .before .before .before .before .before .before .before .before .before .before .before .before .before .before .args .holds)) (c .before .before .before .before .before .before .before .before .before .before .before .before .word .ensures .0)) _ (⊎-elim (λ p. lacking-both _ _ _ _ (sym (c .before .before .before .before .before .before .present .ensures)) (p .0 .taken) (p .1)) (λ p. lacking-either _ _ _ _ (sym (c .before .before .before .before .before .before .present .ensures)) (p .0 .left) (p .1)) (c .before .before .before .before .if1 .came)) _ _ (c .before .before .before .missing .ensures (supplied (c .before .before .before .before .before .before .before .before .before .before .before .before .before .before .before .args .counts) (c .before .before .before .before .before .before .before .before .before .before .before .before .before .before .before .args .made) T)) (not-false _ (c .if2 .left))
 
 pub support-spec : {M : Type 1} → statement M
 support-spec =
