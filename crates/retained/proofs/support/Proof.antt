@@ -62,7 +62,7 @@ same-length c = search needs
 
 -- src/lib.rt:166:17
 returns : tie.Need-returns
-returns c = λ T. support-none (supplied (c .before .before .before .before .before .before .before .before .before .before .before .before .before .before .before .args .counts) (c .before .before .before .before .before .before .before .before .before .before .before .before .before .before .before .args .made) T) (c .before .before .before .before .before .before .before .before .before .before .before .before .before .before .before .args .kept .now) (c .before .before .before .before .before .before .before .before .before .before .before .before .before .before .before .pre .3) (c .before .before .before .before .before .before .before .before .before .before .before .before .before .before .before .args .a) (c .before .before .before .before .before .before .before .before .before .before .before .before .before .before .before .pre .2) (c .before .before .before .before .before .before .before .before .before .before .before .before .before .before .before .args .holds) _ (sym (ap countOf (c .before .before .before .before .before .before .before .before .before .m .given .1)) ∙ c .before .before .before .before .before .before .before .before .before .before .before .counted .ensures ∙ ap (moved (c .before .before .before .before .before .before .before .before .before .before .before .before .before .before .before .args .made) (c .before .before .before .before .before .before .before .before .before .before .before .before .before .before .before .args .holds)) (c .before .before .before .before .before .before .before .before .before .before .before .before .word .ensures .0)) _ (⊎-elim (λ p. lacking-both _ _ _ _ (sym (c .before .before .before .before .before .before .present .ensures)) (p .0 .taken) (p .1)) (λ p. lacking-either _ _ _ _ (sym (c .before .before .before .before .before .before .present .ensures)) (p .0 .left) (p .1)) (c .before .before .before .before .if1 .came)) _ _ (c .before .before .before .missing .ensures (supplied (c .before .before .before .before .before .before .before .before .before .before .before .before .before .before .before .args .counts) (c .before .before .before .before .before .before .before .before .before .before .before .before .before .before .before .args .made) T)) (not-true _ (c .if2 .taken))
+returns c = λ T. support-none (supplied (c .before .before .before .before .before .before .before .before .before .before .before .before .before .before .before .args .counts) (c .before .before .before .before .before .before .before .before .before .before .before .before .before .before .before .args .made) T) (c .before .before .before .before .before .before .before .before .before .before .before .before .before .before .before .args .kept .now) (c .before .before .before .before .before .before .before .before .before .before .before .before .before .before .before .pre .3) (c .before .before .before .before .before .before .before .before .before .before .before .before .before .before .before .args .a) (c .before .before .before .before .before .before .before .before .before .before .before .before .before .before .before .pre .2) (c .before .before .before .before .before .before .before .before .before .before .before .before .before .before .before .args .holds) _ (sym (ap countOf (c .before .before .before .before .before .before .before .before .before .m .given .1)) ∙ c .before .before .before .before .before .before .before .before .before .before .before .counted .ensures ∙ ap (moved (c .before .before .before .before .before .before .before .before .before .before .before .before .before .before .before .args .made) (c .before .before .before .before .before .before .before .before .before .before .before .before .before .before .before .args .holds)) (c .before .before .before .before .before .before .before .before .before .before .before .before .word .ensures .0)) _ (⊎-elim (λ p. lacking-both _ _ (c .before .before .before .before .before .before .before .before .before .m .given .0 .0) _ (sym (c .before .before .before .before .before .before .present .ensures)) (p .0 .taken) (p .1)) (λ p. lacking-either _ _ (c .before .before .before .before .before .before .before .before .before .m .given .0 .0) _ (sym (c .before .before .before .before .before .before .present .ensures)) (p .0 .left) (p .1)) (c .before .before .before .before .if1 .came)) _ _ (c .before .before .before .missing .ensures (supplied (c .before .before .before .before .before .before .before .before .before .before .before .before .before .before .before .args .counts) (c .before .before .before .before .before .before .before .before .before .before .before .before .before .before .before .args .made) T)) (not-true _ (c .if2 .taken))
 
 -- src/lib.rt:168:24
 cast-kept : tie.Need-cast-kept
@@ -90,7 +90,7 @@ same-length-3 c = search needs
 
 -- src/lib.rt:154:1
 returns-3 : tie.Need-returns-3
-returns-3 c = λ T. support-done (supplied (c .before .before .before .before .before .before .before .before .before .before .before .before .before .before .before .args .counts) (c .before .before .before .before .before .before .before .before .before .before .before .before .before .before .before .args .made) T) (c .before .before .before .before .before .before .before .before .before .before .before .before .before .before .before .args .kept .now) (c .before .before .before .before .before .before .before .before .before .before .before .before .before .before .before .pre .3) (c .before .before .before .before .before .before .before .before .before .before .before .before .before .before .before .args .a) (c .before .before .before .before .before .before .before .before .before .before .before .before .before .before .before .pre .2) (c .before .before .before .before .before .before .before .before .before .before .before .before .before .before .before .args .holds) _ (sym (ap countOf (c .before .before .before .before .before .before .before .before .before .m .given .1)) ∙ c .before .before .before .before .before .before .before .before .before .before .before .counted .ensures ∙ ap (moved (c .before .before .before .before .before .before .before .before .before .before .before .before .before .before .before .args .made) (c .before .before .before .before .before .before .before .before .before .before .before .before .before .before .before .args .holds)) (c .before .before .before .before .before .before .before .before .before .before .before .before .word .ensures .0)) _ (⊎-elim (λ p. lacking-both _ _ _ _ (sym (c .before .before .before .before .before .before .present .ensures)) (p .0 .taken) (p .1)) (λ p. lacking-either _ _ _ _ (sym (c .before .before .before .before .before .before .present .ensures)) (p .0 .left) (p .1)) (c .before .before .before .before .if1 .came)) _ _ (c .before .before .before .missing .ensures (supplied (c .before .before .before .before .before .before .before .before .before .before .before .before .before .before .before .args .counts) (c .before .before .before .before .before .before .before .before .before .before .before .before .before .before .before .args .made) T)) (not-false _ (c .if2 .left))
+returns-3 c = λ T. support-done (supplied (c .before .before .before .before .before .before .before .before .before .before .before .before .before .before .before .args .counts) (c .before .before .before .before .before .before .before .before .before .before .before .before .before .before .before .args .made) T) (c .before .before .before .before .before .before .before .before .before .before .before .before .before .before .before .args .kept .now) (c .before .before .before .before .before .before .before .before .before .before .before .before .before .before .before .pre .3) (c .before .before .before .before .before .before .before .before .before .before .before .before .before .before .before .args .a) (c .before .before .before .before .before .before .before .before .before .before .before .before .before .before .before .pre .2) (c .before .before .before .before .before .before .before .before .before .before .before .before .before .before .before .args .holds) _ (sym (ap countOf (c .before .before .before .before .before .before .before .before .before .m .given .1)) ∙ c .before .before .before .before .before .before .before .before .before .before .before .counted .ensures ∙ ap (moved (c .before .before .before .before .before .before .before .before .before .before .before .before .before .before .before .args .made) (c .before .before .before .before .before .before .before .before .before .before .before .before .before .before .before .args .holds)) (c .before .before .before .before .before .before .before .before .before .before .before .before .word .ensures .0)) _ (⊎-elim (λ p. lacking-both _ _ (c .before .before .before .before .before .before .before .before .before .m .given .0 .0) _ (sym (c .before .before .before .before .before .before .present .ensures)) (p .0 .taken) (p .1)) (λ p. lacking-either _ _ (c .before .before .before .before .before .before .before .before .before .m .given .0 .0) _ (sym (c .before .before .before .before .before .before .present .ensures)) (p .0 .left) (p .1)) (c .before .before .before .before .if1 .came)) _ _ (c .before .before .before .missing .ensures (supplied (c .before .before .before .before .before .before .before .before .before .before .before .before .before .before .before .args .counts) (c .before .before .before .before .before .before .before .before .before .before .before .before .before .before .before .args .made) T)) (not-false _ (c .if2 .left))
 
 pub support-spec : {M : Type 1} → statement M
 support-spec =
