@@ -66,6 +66,20 @@ produced t made producers T =
       readers = T .readers;
     }
 
+-- these and the reader table
+abbrev pub told : Counts → ℕ → List ℕ → List ℕ → Tables → Tables
+told t made producers readers T =
+    record {
+      counts = t;
+      plan = T .plan;
+      made = made;
+      nodes = T .nodes;
+      operands = T .operands;
+      roots = T .roots;
+      producers = producers;
+      readers = readers;
+    }
+
 -- the counts and the reader table
 abbrev pub listed : Counts → List ℕ → Tables → Tables
 listed t readers T =
@@ -92,4 +106,32 @@ walked t made nodes operands producers readers T =
       roots = T .roots;
       producers = producers;
       readers = readers;
+    }
+
+-- the counts and the roots
+abbrev pub rooted : Counts → List ℕ → Tables → Tables
+rooted t roots T =
+    record {
+      counts = t;
+      plan = T .plan;
+      made = T .made;
+      nodes = T .nodes;
+      operands = T .operands;
+      roots = roots;
+      producers = T .producers;
+      readers = T .readers;
+    }
+
+-- all that a fresh check reads
+abbrev pub planned : Counts → ℕ → List ℕ → List ℕ → List ℕ → List ℕ → Tables → Tables
+planned t made nodes operands roots producers T =
+    record {
+      counts = t;
+      plan = T .plan;
+      made = made;
+      nodes = nodes;
+      operands = operands;
+      roots = roots;
+      producers = producers;
+      readers = T .readers;
     }

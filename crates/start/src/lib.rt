@@ -1,0 +1,162 @@
+// The start of a kept check: how many atoms changed, and the new candidate with its missing atoms and the atom nodes of changed atoms on the worklist (the two passes of `update` in tight/evaluate.rs).
+ghost use mathlib.Core.Path.{_≡_};
+ghost use mathlib.Core.Bool.{true};
+ghost use mathlib.Core.List.{map};
+ghost use Prim.Native.Nat.{ℕ, _+_, _*_, _<_, _≤_};
+ghost use lib.Bits.{bitXor};
+ghost use lib.ListN.{length, getD};
+ghost use Rattle.base.specs.Places.{places};
+ghost use Rattle.formula.specs.Satisfaction.{Interpretation};
+ghost use Rattle.formula.specs.Passes.{Within};
+ghost use Rattle.theory.specs.Limits.{Limited};
+ghost use Rattle.words.specs.Bit.{bit};
+ghost use Rattle.words.specs.Sets.{member};
+ghost use Rattle.readers.specs.ReaderTable.{readerWords};
+ghost use Rattle.kept.specs.SetOf.{words32, words64};
+ghost use Rattle.kept.specs.Tables.{Tables, atomNodesAt};
+ghost use Rattle.kept.specs.Evaluation.{present};
+ghost use Rattle.kept.specs.Layout.{ofWords};
+ghost use Rattle.kept.specs.Start.{allEntered, atomTurned, walkStart, least, orNone, leastNode, lowestEntered};
+ghost use Rattle.kept.specs.Check.{changes};
+ghost use Rattle.kept_laws.specs.Given.{candidateAt, usedBy, sized, listed};
+ghost use Rattle.kept_laws.specs.Halves.{half};
+ghost use Rattle.kept_laws.specs.StartChanged.{allTurned};
+ghost use Rattle.start.specs.Enters.{Enters};
+use theory::Counts;
+
+// The lowest node entered, or the number that was given; Stray is refusal 17.
+pub enum Entered {
+    Low(usize),
+    Stray,
+}
+
+// The nodes listed onto the worklist.
+fn enter_all(counts: Counts, list: &[u64], kept: &mut [u32], low: usize) -> Entered
+    requires { ⌜ Limited counts × (usedBy counts ≤ length (now kept)) ⌝ }
+    ensures { λ r. ⌜ ((T : Tables) → Enters (sized counts T) (now (kept .entry)) (allEntered (sized counts T) (ofWords (sized counts T) (now (kept .entry))) (now (list .entry))) (least low (now (list .entry))) r (now (kept .exit))) ⌝ }
+{
+    let mut lowest = low;
+    let mut i = 0;
+    while i < list.len() {
+        let m = words::word64(list, i);
+        if m >= counts.nodes {
+            return Entered::Stray;
+        }
+        if !retained::queue(counts, kept, m) {
+            return Entered::Stray;
+        }
+        if m < lowest {
+            lowest = m;
+        }
+        i += 1;
+    }
+    Entered::Low(lowest)
+}
+
+// Atom a becomes present or not, and its atom nodes go onto the worklist.
+fn turn_atom(
+    counts: Counts,
+    readers: &[u64],
+    kept: &mut [u32],
+    a: usize,
+    x: bool,
+    low: usize,
+) -> Entered
+    requires { ⌜ Limited counts × (readerWords counts ≤ length (now readers)) × (usedBy counts ≤ length (now kept)) × (a < counts .atoms) ⌝ }
+    ensures { λ r. ⌜ ((T : Tables) (J : Interpretation) → J a ≡ x → Enters (listed counts (now (readers .entry)) T) (now (kept .entry)) (atomTurned (listed counts (now (readers .entry)) T) J a (ofWords (listed counts (now (readers .entry)) T) (now (kept .entry)))) (least low (orNone (atomNodesAt (listed counts (now (readers .entry)) T) a))) r (now (kept .exit))) ⌝ }
+{
+    if !retained::presence(counts, kept, a, x) {
+        return Entered::Stray;
+    }
+    let size = 2 + counts.atoms + 4 * counts.nodes + counts.operands + 2 * counts.roots;
+    if !readers::in_order(readers, size, counts.nodes + 1 + a) {
+        return Entered::Stray;
+    }
+    enter_all(
+        counts,
+        readers::atom_nodes_of(readers, counts.nodes, a),
+        kept,
+        low,
+    )
+}
+
+// The atoms of word i become as `new` has them: those at which it differs from the kept word.
+fn turn_word(
+    counts: Counts,
+    readers: &[u64],
+    kept: &mut [u32],
+    i: usize,
+    new: u32,
+    low: usize,
+) -> Entered
+    requires { ⌜ Limited counts × (readerWords counts ≤ length (now readers)) × (usedBy counts ≤ length (now kept)) × (i < words32 (counts .atoms)) ⌝ }
+    requires { ⌜ ((k : ℕ) → bit (bitXor (getD (now kept) (candidateAt counts + i) 0) new) k ≡ true → i * 32 + k < counts .atoms) ⌝ }
+    ensures { λ r. ⌜ ((T : Tables) (J : Interpretation) → ((k : ℕ) → k < 32 → J (i * 32 + k) ≡ bit new k) → Enters (listed counts (now (readers .entry)) T) (now (kept .entry)) (allTurned (listed counts (now (readers .entry)) T) J (map (λ k. i * 32 + k) (places (bit (bitXor (getD (now (kept .entry)) (candidateAt counts + i) 0) new)) 0 32)) (ofWords (listed counts (now (readers .entry)) T) (now (kept .entry)))) (leastNode (listed counts (now (readers .entry)) T) low (map (λ k. i * 32 + k) (places (bit (bitXor (getD (now (kept .entry)) (candidateAt counts + i) 0) new)) 0 32))) r (now (kept .exit))) ⌝ }
+{
+    let n = counts.nodes;
+    let at = 16 + n + (n + 31) / 32 + counts.atoms + i;
+    let mut lowest = low;
+    let mut x = kept[at] ^ new;
+    while x != 0 {
+        let t = u32::trailing_zeros(x);
+        let a = i * 32 + t as usize;
+        match turn_atom(counts, readers, kept, a, (new >> t) % 2 == 1, lowest) {
+            Entered::Low(m) => {
+                lowest = m;
+            }
+            Entered::Stray => {
+                return Entered::Stray;
+            }
+        }
+        x = x ^ (1u32 << t);
+    }
+    Entered::Low(lowest)
+}
+
+// Word i of a candidate in words of 32 bits.
+pub fn half_word(candidate: &[u64], i: usize) -> u32
+    requires { ⌜ i < 2 * length (now candidate) ⌝ }
+    ensures { λ r. ⌜ r ≡ half (now (candidate .entry)) i ⌝ }
+{
+    ((candidate[i / 2] >> (i % 2 * 32)) % 0x1_0000_0000) as u32
+}
+
+// The new candidate, and the atom nodes of changed atoms on the worklist; `candidate` is its listed words.
+pub fn start(counts: Counts, candidate: &[u64], readers: &[u64], kept: &mut [u32]) -> Entered
+    requires { ⌜ Limited counts × (length (now candidate) ≡ words64 (counts .atoms)) × (readerWords counts ≤ length (now readers)) × (usedBy counts ≤ length (now kept)) ⌝ }
+    requires { ⌜ Within (counts .atoms) (member 64 (now candidate)) × ((T : Tables) → Within (counts .atoms) (present (ofWords (sized counts T) (now kept)))) ⌝ }
+    ensures { λ r. ⌜ ((T : Tables) → Enters (listed counts (now (readers .entry)) T) (now (kept .entry)) (walkStart (listed counts (now (readers .entry)) T) (member 64 (now (candidate .entry))) (counts .atoms) (ofWords (listed counts (now (readers .entry)) T) (now (kept .entry)))) (lowestEntered (listed counts (now (readers .entry)) T) (member 64 (now (candidate .entry))) (ofWords (listed counts (now (readers .entry)) T) (now (kept .entry)))) r (now (kept .exit))) ⌝ }
+{
+    let words = (counts.atoms + 31) / 32;
+    let mut lowest = counts.nodes;
+    let mut i = 0;
+    while i < words {
+        match turn_word(counts, readers, kept, i, half_word(candidate, i), lowest) {
+            Entered::Low(m) => {
+                lowest = m;
+            }
+            Entered::Stray => {
+                return Entered::Stray;
+            }
+        }
+        i += 1;
+    }
+    Entered::Low(lowest)
+}
+
+// How many atoms differ between the kept candidate and the new one: the ones of each word's difference.
+pub fn changed(counts: Counts, candidate: &[u64], kept: &[u32]) -> usize
+    requires { ⌜ Limited counts × (length (now candidate) ≡ words64 (counts .atoms)) × (usedBy counts ≤ length (now kept)) ⌝ }
+    ensures { λ r. ⌜ ((T : Tables) → r ≡ changes (member 64 (now (candidate .entry))) (ofWords (sized counts T) (now (kept .entry)))) ⌝ }
+{
+    let n = counts.nodes;
+    let at = 16 + n + (n + 31) / 32 + counts.atoms;
+    let words = (counts.atoms + 31) / 32;
+    let mut sum = 0;
+    let mut i = 0;
+    while i < words {
+        sum = sum + words::set32::changed(kept[at + i], half_word(candidate, i)) as usize;
+        i += 1;
+    }
+    sum
+}

@@ -1,0 +1,125 @@
+use borrow.Author.Needs.{needs}
+use Rattle.step.proofs.update_reader.Statement.{statement}
+use Rattle.step.proofs.update_reader.Tie as tie
+use Rattle.step.proofs.update_reader.Reads as reads
+use Rattle.step.proofs.update_reader.Lts as lts
+use Rattle.readers.proofs.Reader.reading.Reads as reading-reads
+use Rattle.retained.proofs.queue.Reads as queue-reads
+use Rattle.retained.proofs.root.Reads as root-reads
+use Rattle.retained.proofs.support.Reads as support-reads
+use Rattle.words.proofs.word.Reads as word-reads
+
+-- src/lib.rt:42:11
+reading-requires : tie.Need-reading-requires
+reading-requires c κs = search needs
+
+-- src/lib.rt:43:23
+enum-known-m : tie.Need-enum-known-m
+enum-known-m c = search needs
+
+-- src/lib.rt:45:17
+returns : tie.Need-returns
+returns c = ?
+
+-- src/lib.rt:48:17
+returns-2 : tie.Need-returns-2
+returns-2 c = ?
+
+-- src/lib.rt:50:13
+queue-requires : tie.Need-queue-requires
+queue-requires c κs = search needs
+
+-- src/lib.rt:52:27
+enum-known-p : tie.Need-enum-known-p
+enum-known-p c = search needs
+
+-- src/lib.rt:54:17
+returns-3 : tie.Need-returns-3
+returns-3 c = ?
+
+-- src/lib.rt:56:44
+mul-word : tie.Need-mul-word
+mul-word c = search needs
+
+-- src/lib.rt:56:17
+word-requires : tie.Need-word-requires
+word-requires c κs = search needs
+
+-- src/lib.rt:58:17
+returns-4 : tie.Need-returns-4
+returns-4 c = ?
+
+-- src/lib.rt:60:13
+support-requires : tie.Need-support-requires
+support-requires c κs = search needs
+
+-- src/lib.rt:62:23
+enum-known-p-2 : tie.Need-enum-known-p-2
+enum-known-p-2 c = search needs
+
+-- src/lib.rt:64:17
+returns-5 : tie.Need-returns-5
+returns-5 c = ?
+
+-- src/lib.rt:66:13
+root-requires : tie.Need-root-requires
+root-requires c κs = search needs
+
+-- src/lib.rt:68:29
+enum-told : tie.Need-enum-told
+enum-told c = search needs
+
+-- src/lib.rt:30:1
+same-length : tie.Need-same-length
+same-length c = search needs
+
+-- src/lib.rt:30:1
+returns-6 : tie.Need-returns-6
+returns-6 c = ?
+
+-- src/lib.rt:30:1
+same-length-2 : tie.Need-same-length-2
+same-length-2 c = search needs
+
+-- src/lib.rt:30:1
+returns-7 : tie.Need-returns-7
+returns-7 c = ?
+
+-- src/lib.rt:30:1
+same-length-3 : tie.Need-same-length-3
+same-length-3 c = search needs
+
+-- src/lib.rt:30:1
+returns-8 : tie.Need-returns-8
+returns-8 c = ?
+
+-- src/lib.rt:30:1
+returns-9 : tie.Need-returns-9
+returns-9 c = ?
+
+pub update-reader-spec : {M : Type 1} → statement M
+update-reader-spec =
+    tie.close
+    (tie.spec
+    reading-requires
+    enum-known-m
+    returns
+    returns-2
+    queue-requires
+    enum-known-p
+    returns-3
+    mul-word
+    word-requires
+    returns-4
+    support-requires
+    enum-known-p-2
+    returns-5
+    root-requires
+    enum-told
+    same-length
+    returns-6
+    same-length-2
+    returns-7
+    same-length-3
+    returns-8
+    returns-9)

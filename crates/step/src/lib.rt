@@ -1,0 +1,199 @@
+// One step of a kept check: the lowest node of the worklist gets its truth, and its readers are told if that changed.
+ghost use mathlib.Core.Path.{_≡_};
+ghost use mathlib.Core.Bool.{true, false};
+ghost use Prim.Native.Nat.{_+_, _*_, _<_, _≤_};
+ghost use lib.ListN.{length, set};
+ghost use Rattle.theory.specs.Limits.{Limited};
+ghost use Rattle.words.specs.Next.{next};
+ghost use Rattle.readers.specs.Reader.{readingOf};
+ghost use Rattle.readers.specs.ReaderTable.{readerWords};
+ghost use Rattle.kept.specs.Tables.{Tables};
+ghost use Rattle.kept.specs.Evaluation.{truthWord};
+ghost use Rattle.kept.specs.Layout.{ofWords};
+ghost use Rattle.kept.specs.Step.{readerUpdated, readersUpdated, step};
+ghost use Rattle.kept_laws.specs.Given.{usedBy, sized, produced, told, walked};
+ghost use Rattle.kept_laws.specs.Wrote.{Wrote};
+ghost use Rattle.step.specs.Steps.{Lent, settledTo, takenFrom, Steps};
+use node_truth::Seen;
+use readers::Reader;
+use readers::Reading;
+use theory::Counts;
+
+// Nothing was on the worklist; a node was gone over; or refusal 17, at a place.
+pub enum Taking {
+    Idle,
+    Took(usize),
+    Fault(usize),
+}
+
+// A reader of node k, which has become true or false, is told.
+fn update_reader(
+    counts: Counts,
+    made: usize,
+    producers: &[u32],
+    kept: &mut [u32],
+    k: usize,
+    holds: bool,
+    word: u64,
+) -> bool
+    requires { ⌜ Limited counts × (made ≤ counts .roots) × (4 * counts .roots ≤ length (now producers)) × (usedBy counts ≤ length (now kept)) ⌝ }
+    ensures { λ r. ⌜ ((T : Tables) → Wrote (produced counts made (now (producers .entry)) T) (now (kept .entry)) (readerUpdated (produced counts made (now (producers .entry)) T) k holds (ofWords (produced counts made (now (producers .entry)) T) (now (kept .entry))) (readingOf word)) r (now (kept .exit))) ⌝ }
+{
+    match Reader(word).reading() {
+        Reading::Node(m) => {
+            if m <= k {
+                return false;
+            }
+            if m >= counts.nodes {
+                return false;
+            }
+            retained::queue(counts, kept, m)
+        }
+        Reading::Producer(p) => {
+            if p >= made {
+                return false;
+            }
+            let a = words::word(producers, 4 * p);
+            if a >= counts.atoms {
+                return false;
+            }
+            retained::support(counts, made, kept, a, holds)
+        }
+        Reading::Root(p) => {
+            if p >= counts.roots {
+                return false;
+            }
+            retained::root(counts, kept, p, holds)
+        }
+        Reading::Unknown => false,
+    }
+}
+
+// Each of the readers listed, one after the other.
+fn update_readers(
+    counts: Counts,
+    made: usize,
+    producers: &[u32],
+    list: &[u64],
+    kept: &mut [u32],
+    k: usize,
+    holds: bool,
+) -> bool
+    requires { ⌜ Limited counts × (made ≤ counts .roots) × (4 * counts .roots ≤ length (now producers)) × (usedBy counts ≤ length (now kept)) ⌝ }
+    ensures { λ r. ⌜ ((T : Tables) → Wrote (produced counts made (now (producers .entry)) T) (now (kept .entry)) (readersUpdated (produced counts made (now (producers .entry)) T) k holds (ofWords (produced counts made (now (producers .entry)) T) (now (kept .entry))) (now (list .entry))) r (now (kept .exit))) ⌝ }
+{
+    let mut i = 0;
+    while i < list.len() {
+        let word = list[i];
+        if !update_reader(counts, made, producers, kept, k, holds, word) {
+            return false;
+        }
+        i += 1;
+    }
+    true
+}
+
+// Node k becomes true or false.
+fn store(kept: &mut [u32], k: usize, holds: bool)
+    requires { ⌜ 16 + k < length (now kept) ⌝ }
+    ensures { λ _. ⌜ now (kept .exit) ≡ set (now (kept .entry)) (16 + k) (truthWord holds) ⌝ }
+{
+    if holds {
+        kept[16 + k] = 1;
+    } else {
+        kept[16 + k] = 0;
+    }
+}
+
+// Node k, off the worklist, gets its truth.
+fn settle(
+    counts: Counts,
+    made: usize,
+    producers: &[u32],
+    readers: &[u64],
+    kept: &mut [u32],
+    k: usize,
+    holds: bool,
+) -> bool
+    requires { ⌜ Limited counts × (made ≤ counts .roots) × (4 * counts .roots ≤ length (now producers)) × (readerWords counts ≤ length (now readers)) × (usedBy counts ≤ length (now kept)) × (k < counts .nodes) ⌝ }
+    ensures { λ r. ⌜ ((T : Tables) → Wrote (told counts made (now (producers .entry)) (now (readers .entry)) T) (now (kept .entry)) (settledTo (told counts made (now (producers .entry)) (now (readers .entry)) T) k holds (ofWords (told counts made (now (producers .entry)) (now (readers .entry)) T) (now (kept .entry)))) r (now (kept .exit))) ⌝ }
+{
+    if node_truth::holds(kept, k) == holds {
+        return true;
+    }
+    let size = 2 + counts.atoms + 4 * counts.nodes + counts.operands + 2 * counts.roots;
+    if !readers::in_order(readers, size, k) {
+        return false;
+    }
+    store(kept, k, holds);
+    update_readers(
+        counts,
+        made,
+        producers,
+        readers::readers_of(readers, k),
+        kept,
+        k,
+        holds,
+    )
+}
+
+// Node k leaves the worklist and gets its truth.
+fn take(
+    counts: Counts,
+    made: usize,
+    producers: &[u32],
+    readers: &[u64],
+    kept: &mut [u32],
+    k: usize,
+    holds: bool,
+) -> Taking
+    requires { ⌜ Limited counts × (made ≤ counts .roots) × (4 * counts .roots ≤ length (now producers)) × (readerWords counts ≤ length (now readers)) × (usedBy counts ≤ length (now kept)) × (k < counts .nodes) ⌝ }
+    ensures { λ r. ⌜ ((T : Tables) → Steps (told counts made (now (producers .entry)) (now (readers .entry)) T) (now (kept .entry)) (takenFrom (told counts made (now (producers .entry)) (now (readers .entry)) T) k holds (ofWords (told counts made (now (producers .entry)) (now (readers .entry)) T) (now (kept .entry)))) r (now (kept .exit))) ⌝ }
+{
+    if !retained::dequeue(counts, kept, k) {
+        return Taking::Fault(k);
+    }
+    if settle(counts, made, producers, readers, kept, k, holds) {
+        Taking::Took(k)
+    } else {
+        Taking::Fault(k)
+    }
+}
+
+// The lowest node of the worklist from node `from` on.
+fn lowest_queued(counts: Counts, kept: &[u32], from: usize) -> usize
+    requires { ⌜ Limited counts × (usedBy counts ≤ length (now kept)) × (from ≤ counts .nodes) ⌝ }
+    ensures { λ r. ⌜ ((T : Tables) → r ≡ next 32 (ofWords (sized counts T) (now (kept .entry)) .worklist .members) from) ⌝ }
+{
+    let at = 16 + counts.nodes;
+    let end = at + (counts.nodes + 31) / 32;
+    words::set32::next(&kept[at..end], from)
+}
+
+// One step; the nodes below `from` have been gone over.
+pub fn step(
+    counts: Counts,
+    made: usize,
+    nodes: &[u32],
+    operands: &[u32],
+    producers: &[u32],
+    readers: &[u64],
+    kept: &mut [u32],
+    from: usize,
+) -> Taking
+    requires { ⌜ Lent counts made (length (now nodes)) (length (now operands)) (length (now producers)) (length (now readers)) (length (now kept)) × (from ≤ counts .nodes) ⌝ }
+    ensures { λ r. ⌜ ((T : Tables) → Steps (walked counts made (now (nodes .entry)) (now (operands .entry)) (now (producers .entry)) (now (readers .entry)) T) (now (kept .entry)) (step (walked counts made (now (nodes .entry)) (now (operands .entry)) (now (producers .entry)) (now (readers .entry)) T) from (ofWords (walked counts made (now (nodes .entry)) (now (operands .entry)) (now (producers .entry)) (now (readers .entry)) T) (now (kept .entry)))) r (now (kept .exit))) ⌝ }
+{
+    if kept[4] == 0 {
+        return Taking::Idle;
+    }
+    let k = lowest_queued(counts, kept, from);
+    if k >= counts.nodes {
+        return Taking::Fault(0);
+    }
+    match node_truth::node_truth(counts, nodes, operands, kept, k) {
+        Seen::Stray => Taking::Fault(k),
+        Seen::True => take(counts, made, producers, readers, kept, k, true),
+        Seen::False => take(counts, made, producers, readers, kept, k, false),
+    }
+}

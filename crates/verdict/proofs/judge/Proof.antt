@@ -1,0 +1,83 @@
+use borrow.Author.Needs.{needs}
+use Rattle.verdict.proofs.judge.Statement.{statement}
+use Rattle.verdict.proofs.judge.Tie as tie
+use Rattle.verdict.proofs.judge.Reads as reads
+use Rattle.verdict.proofs.judge.Lts as lts
+use Rattle.verdict.proofs.first_false.Reads as first-false-reads
+use Rattle.verdict.proofs.first_missing.Reads as first-missing-reads
+use Rattle.words.proofs.word.Reads as word-reads
+
+-- src/lib.rt:73:11
+first-false-requires : tie.Need-first-false-requires
+first-false-requires c κs = search needs
+
+-- src/lib.rt:74:20
+enum-known-p : tie.Need-enum-known-p
+enum-known-p c = search needs
+
+-- src/lib.rt:74:57
+word-requires : tie.Need-word-requires
+word-requires c κs = ?
+
+-- src/lib.rt:75:27
+enum-told : tie.Need-enum-told
+enum-told c = search needs
+
+-- src/lib.rt:76:32
+enum-told-2 : tie.Need-enum-told-2
+enum-told-2 c = search needs
+
+-- src/lib.rt:76:32
+first-missing-requires : tie.Need-first-missing-requires
+first-missing-requires c κs = search needs
+
+-- src/lib.rt:77:24
+enum-known-a : tie.Need-enum-known-a
+enum-known-a c = search needs
+
+-- src/lib.rt:78:31
+enum-told-3 : tie.Need-enum-told-3
+enum-told-3 c = search needs
+
+-- src/lib.rt:79:43
+enum-told-4 : tie.Need-enum-told-4
+enum-told-4 c = search needs
+
+-- src/lib.rt:69:1
+returns : tie.Need-returns
+returns c = ?
+
+-- src/lib.rt:69:1
+returns-2 : tie.Need-returns-2
+returns-2 c = ?
+
+-- src/lib.rt:69:1
+returns-3 : tie.Need-returns-3
+returns-3 c = ?
+
+-- src/lib.rt:69:1
+returns-4 : tie.Need-returns-4
+returns-4 c = ?
+
+-- src/lib.rt:69:1
+returns-5 : tie.Need-returns-5
+returns-5 c = ?
+
+pub judge-spec : {M : Type 1} → statement M
+judge-spec =
+    tie.close
+    (tie.spec
+    first-false-requires
+    enum-known-p
+    word-requires
+    enum-told
+    enum-told-2
+    first-missing-requires
+    enum-known-a
+    enum-told-3
+    enum-told-4
+    returns
+    returns-2
+    returns-3
+    returns-4
+    returns-5)

@@ -1,0 +1,25 @@
+use borrow.Author.Needs.{needs}
+use Rattle.verdict.proofs.lowest.Statement.{statement}
+use Rattle.verdict.proofs.lowest.Tie as tie
+use Rattle.verdict.proofs.lowest.Reads as reads
+use Rattle.verdict.proofs.lowest.Lts as lts
+use Rattle.words.proofs.set32.next.Reads as next-reads
+
+-- src/lib.rt:40:9
+returns : tie.Need-returns
+returns c = ?
+
+-- src/lib.rt:42:9
+next-requires : tie.Need-next-requires
+next-requires c κs = search needs
+
+-- src/lib.rt:35:1
+returns-2 : tie.Need-returns-2
+returns-2 c = ?
+
+-- src/lib.rt:35:1
+returns-3 : tie.Need-returns-3
+returns-3 c = ?
+
+pub lowest-spec : {M : Type 1} → statement M
+lowest-spec = tie.close (tie.spec returns next-requires returns-2 returns-3)

@@ -1,0 +1,82 @@
+// The verdict that a kept evaluation tells.
+ghost use mathlib.Core.Path.{_≡_};
+ghost use Prim.Native.Nat.{_<_, _≤_};
+ghost use lib.ListN.{length};
+ghost use Rattle.theory.specs.Limits.{Limited};
+ghost use Rattle.kept.specs.CountedSet.{lookup};
+ghost use Rattle.kept.specs.Tables.{Tables};
+ghost use Rattle.kept.specs.Verdict.{verdictOf};
+ghost use Rattle.kept.specs.Layout.{ofWords};
+ghost use Rattle.kept_laws.specs.Given.{usedBy, sized, rooted};
+ghost use Rattle.verdict.specs.Told.{judgedOf, lookupOf};
+use theory::Counts;
+
+// Not a model, with its first false root's node; residual, with the lowest atom that nothing produces; stable.
+pub enum Verdict {
+    NotModel(usize),
+    Residual(usize),
+    Stable,
+}
+
+// Stray is refusal 17: a set and its count, or its table, are at odds.
+pub enum Judged {
+    Sure(Verdict),
+    Stray,
+}
+
+// The lowest member of a set with a count.
+pub enum Lookup {
+    Empty,
+    At(usize),
+    Astray,
+}
+
+// Of the set in `words`, `size` its count, its members below n.
+fn lowest(words: &[u32], size: usize, n: usize) -> Lookup
+    requires { ⌜ length (now words) ≤ 8192 ⌝ }
+    ensures { λ r. ⌜ lookupOf r ≡ lookup n 0 (record { members = now (words .entry); size = size }) ⌝ }
+{
+    if size == 0 {
+        return Lookup::Empty;
+    }
+    let i = words::set32::next(words, 0);
+    if i < n { Lookup::At(i) } else { Lookup::Astray }
+}
+
+fn first_false(counts: Counts, kept: &[u32]) -> Lookup
+    requires { ⌜ Limited counts × (usedBy counts ≤ length (now kept)) ⌝ }
+    ensures { λ r. ⌜ ((T : Tables) → lookupOf r ≡ lookup (counts .roots) 0 (ofWords (sized counts T) (now (kept .entry)) .falseRoots)) ⌝ }
+{
+    let n = counts.nodes;
+    let a = counts.atoms;
+    let at = 16 + n + (n + 31) / 32 + a + (a + 31) / 32 + (a + 31) / 32;
+    let end = at + (counts.roots + 31) / 32;
+    lowest(&kept[at..end], words::word(kept, 3), counts.roots)
+}
+
+fn first_missing(counts: Counts, kept: &[u32]) -> Lookup
+    requires { ⌜ Limited counts × (usedBy counts ≤ length (now kept)) ⌝ }
+    ensures { λ r. ⌜ ((T : Tables) → lookupOf r ≡ lookup (counts .atoms) 0 (ofWords (sized counts T) (now (kept .entry)) .missing)) ⌝ }
+{
+    let n = counts.nodes;
+    let a = counts.atoms;
+    let at = 16 + n + (n + 31) / 32 + a + (a + 31) / 32;
+    let end = at + (a + 31) / 32;
+    lowest(&kept[at..end], words::word(kept, 2), a)
+}
+
+// By the false roots in root order, then the missing atoms.
+pub fn judge(counts: Counts, roots: &[u32], kept: &[u32]) -> Judged
+    requires { ⌜ Limited counts × (counts .roots ≤ length (now roots)) × (usedBy counts ≤ length (now kept)) ⌝ }
+    ensures { λ r. ⌜ ((T : Tables) → judgedOf r ≡ verdictOf (rooted counts (now (roots .entry)) T) (ofWords (rooted counts (now (roots .entry)) T) (now (kept .entry)))) ⌝ }
+{
+    match first_false(counts, kept) {
+        Lookup::At(p) => Judged::Sure(Verdict::NotModel(words::word(roots, p))),
+        Lookup::Astray => Judged::Stray,
+        Lookup::Empty => match first_missing(counts, kept) {
+            Lookup::At(a) => Judged::Sure(Verdict::Residual(a)),
+            Lookup::Astray => Judged::Stray,
+            Lookup::Empty => Judged::Sure(Verdict::Stable),
+        },
+    }
+}
