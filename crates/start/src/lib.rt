@@ -90,7 +90,7 @@ fn turn_word(
     low: usize,
 ) -> Entered
     requires { ⌜ Limited counts × (readerWords counts ≤ length (now readers)) × (usedBy counts ≤ length (now kept)) × (i < words32 (counts .atoms)) ⌝ }
-    requires { ⌜ ((k : ℕ) → bit (bitXor (getD (now kept) (candidateAt counts + i) 0) new) k ≡ true → i * 32 + k < counts .atoms) ⌝ }
+    requires { ⌜ ((k : ℕ) → k < 32 → bit (bitXor (getD (now kept) (candidateAt counts + i) 0) new) k ≡ true → i * 32 + k < counts .atoms) ⌝ }
     ensures { λ r. ⌜ ((T : Tables) (J : Interpretation) → ((k : ℕ) → k < 32 → J (i * 32 + k) ≡ bit new k) → Enters (listed counts (now (readers .entry)) T) (now (kept .entry)) (allTurned (listed counts (now (readers .entry)) T) J (map (λ k. i * 32 + k) (places (bit (bitXor (getD (now (kept .entry)) (candidateAt counts + i) 0) new)) 0 32)) (ofWords (listed counts (now (readers .entry)) T) (now (kept .entry)))) (leastNode (listed counts (now (readers .entry)) T) low (map (λ k. i * 32 + k) (places (bit (bitXor (getD (now (kept .entry)) (candidateAt counts + i) 0) new)) 0 32))) r (now (kept .exit))) ⌝ }
 {
     let n = counts.nodes;

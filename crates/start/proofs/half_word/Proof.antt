@@ -1,3 +1,4 @@
+use Rattle.start.specs.ChangedLaws.{half-read}
 use borrow.Author.Needs.{needs}
 use Rattle.start.proofs.half_word.Statement.{statement}
 use Rattle.start.proofs.half_word.Tie as tie
@@ -26,7 +27,7 @@ cast-result c = search needs
 
 -- src/lib.rt:103:1
 returns : tie.Need-returns
-returns c = ?
+returns c = half-read _ _
 
 pub half-word-spec : {M : Type 1} → statement M
 half-word-spec =

@@ -1,3 +1,5 @@
+use Rattle.step.specs.QueueLaws.{lowest-in}
+use Rattle.kept_laws.specs.Given.{sized}
 use borrow.Author.Needs.{needs}
 use Rattle.step.proofs.lowest_queued.Statement.{statement}
 use Rattle.step.proofs.lowest_queued.Tie as tie
@@ -39,7 +41,7 @@ next-requires c κs = search needs
 
 -- src/lib.rt:164:1
 returns : tie.Need-returns
-returns c = ?
+returns c = λ T. lowest-in (sized (c .before .before .before .before .before .args .counts) T) (c .before .before .before .before .before .args .kept .now) (c .before .before .before .before .before .pre .1) (c .before .before .before .before .before .args .from) _ (c .next .ensures)
 
 pub lowest-queued-spec : {M : Type 1} → statement M
 lowest-queued-spec =

@@ -34,7 +34,7 @@ same-length c = search needs
 
 -- src/lib.rt:97:1
 returns : tie.Need-returns
-returns c = ?
+returns c = rw (c .if1 .taken)
 
 -- src/lib.rt:97:1
 same-length-2 : tie.Need-same-length-2
@@ -42,7 +42,7 @@ same-length-2 c = search needs
 
 -- src/lib.rt:97:1
 returns-2 : tie.Need-returns-2
-returns-2 c = ?
+returns-2 c = rw (c .if1 .left)
 
 pub store-spec : {M : Type 1} → statement M
 store-spec =

@@ -1,3 +1,5 @@
+use Rattle.step.specs.ReaderLaws.{node-below, node-past, node-told, producer-past, head-past, producer-told, root-past, root-told, unknown}
+use Rattle.kept_laws.specs.Given.{produced}
 use borrow.Author.Needs.{needs}
 use Rattle.step.proofs.update_reader.Statement.{statement}
 use Rattle.step.proofs.update_reader.Tie as tie
@@ -19,11 +21,11 @@ enum-known-m c = search needs
 
 -- src/lib.rt:45:17
 returns : tie.Need-returns
-returns c = ?
+returns c = λ T. node-below (produced (c .before .before .before .before .before .before .before .args .counts) (c .before .before .before .before .before .before .before .args .made) (c .before .before .before .before .before .before .before .args .producers .now) T) (c .before .before .before .before .before .before .before .args .kept .now) (c .before .before .before .before .before .before .before .args .k) (c .before .before .before .before .before .before .before .args .holds) _ _ (c .before .before .before .before .reading .ensures) _ (c .before .before .m .given .1) (c .if1 .taken)
 
 -- src/lib.rt:48:17
 returns-2 : tie.Need-returns-2
-returns-2 c = ?
+returns-2 c = λ T. node-past (produced (c .before .before .before .before .before .before .before .before .before .args .counts) (c .before .before .before .before .before .before .before .before .before .args .made) (c .before .before .before .before .before .before .before .before .before .args .producers .now) T) (c .before .before .before .before .before .before .before .before .before .args .kept .now) (c .before .before .before .before .before .before .before .before .before .args .k) (c .before .before .before .before .before .before .before .before .before .args .holds) _ _ (c .before .before .before .before .before .before .reading .ensures) _ (c .before .before .before .before .m .given .1) (c .before .before .if1 .left) (c .if2 .taken)
 
 -- src/lib.rt:50:13
 queue-requires : tie.Need-queue-requires
@@ -35,7 +37,7 @@ enum-known-p c = search needs
 
 -- src/lib.rt:54:17
 returns-3 : tie.Need-returns-3
-returns-3 c = ?
+returns-3 c = λ T. producer-past (produced (c .before .before .before .before .before .before .before .args .counts) (c .before .before .before .before .before .before .before .args .made) (c .before .before .before .before .before .before .before .args .producers .now) T) (c .before .before .before .before .before .before .before .args .kept .now) (c .before .before .before .before .before .before .before .args .k) (c .before .before .before .before .before .before .before .args .holds) _ _ (c .before .before .before .before .reading .ensures) _ (c .before .before .p .given .1) (c .if3 .taken)
 
 -- src/lib.rt:56:44
 mul-word : tie.Need-mul-word
@@ -47,7 +49,7 @@ word-requires c κs = search needs
 
 -- src/lib.rt:58:17
 returns-4 : tie.Need-returns-4
-returns-4 c = ?
+returns-4 c = λ T. head-past (produced (c .before .before .before .before .before .before .before .before .before .before .args .counts) (c .before .before .before .before .before .before .before .before .before .before .args .made) (c .before .before .before .before .before .before .before .before .before .before .args .producers .now) T) (c .before .before .before .before .before .before .before .before .before .before .args .kept .now) (c .before .before .before .before .before .before .before .before .before .before .args .k) (c .before .before .before .before .before .before .before .before .before .before .args .holds) _ _ (c .before .before .before .before .before .before .before .reading .ensures) _ _ (c .before .before .before .before .before .p .given .1) (c .before .before .before .if3 .left) (c .before .before .word .ensures .0) (c .if4 .taken)
 
 -- src/lib.rt:60:13
 support-requires : tie.Need-support-requires
@@ -59,7 +61,7 @@ enum-known-p-2 c = search needs
 
 -- src/lib.rt:64:17
 returns-5 : tie.Need-returns-5
-returns-5 c = ?
+returns-5 c = λ T. root-past (produced (c .before .before .before .before .before .before .before .before .args .counts) (c .before .before .before .before .before .before .before .before .args .made) (c .before .before .before .before .before .before .before .before .args .producers .now) T) (c .before .before .before .before .before .before .before .before .args .kept .now) (c .before .before .before .before .before .before .before .before .args .k) (c .before .before .before .before .before .before .before .before .args .holds) _ _ (c .before .before .before .before .before .reading .ensures) _ (c .before .before .before .p2 .given .1) (c .if5 .taken)
 
 -- src/lib.rt:66:13
 root-requires : tie.Need-root-requires
@@ -75,7 +77,7 @@ same-length c = search needs
 
 -- src/lib.rt:30:1
 returns-6 : tie.Need-returns-6
-returns-6 c = ?
+returns-6 c = λ T. node-told (produced (c .before .before .before .before .before .before .before .before .before .before .before .before .before .args .counts) (c .before .before .before .before .before .before .before .before .before .before .before .before .before .args .made) (c .before .before .before .before .before .before .before .before .before .before .before .before .before .args .producers .now) T) (c .before .before .before .before .before .before .before .before .before .before .before .before .before .args .kept .now) (c .before .before .before .before .before .before .before .before .before .before .before .before .before .args .k) (c .before .before .before .before .before .before .before .before .before .before .before .before .before .args .holds) _ _ (c .before .before .before .before .before .before .before .before .before .before .reading .ensures) _ (c .before .before .before .before .before .before .before .before .m .given .1) (c .before .before .before .before .before .before .if1 .left) (c .before .before .before .before .if2 .left) _ _ (c .before .before .queue .ensures (produced (c .before .before .before .before .before .before .before .before .before .before .before .before .before .args .counts) (c .before .before .before .before .before .before .before .before .before .before .before .before .before .args .made) (c .before .before .before .before .before .before .before .before .before .before .before .before .before .args .producers .now) T))
 
 -- src/lib.rt:30:1
 same-length-2 : tie.Need-same-length-2
@@ -83,7 +85,7 @@ same-length-2 c = search needs
 
 -- src/lib.rt:30:1
 returns-7 : tie.Need-returns-7
-returns-7 c = ?
+returns-7 c = λ T. producer-told (produced (c .before .before .before .before .before .before .before .before .before .before .before .before .before .before .args .counts) (c .before .before .before .before .before .before .before .before .before .before .before .before .before .before .args .made) (c .before .before .before .before .before .before .before .before .before .before .before .before .before .before .args .producers .now) T) (c .before .before .before .before .before .before .before .before .before .before .before .before .before .before .args .kept .now) (c .before .before .before .before .before .before .before .before .before .before .before .before .before .before .args .k) (c .before .before .before .before .before .before .before .before .before .before .before .before .before .before .args .holds) _ _ (c .before .before .before .before .before .before .before .before .before .before .before .reading .ensures) _ _ (c .before .before .before .before .before .before .before .before .before .p .given .1) (c .before .before .before .before .before .before .before .if3 .left) (c .before .before .before .before .before .before .word .ensures .0) (c .before .before .before .before .if4 .left) _ _ (c .before .before .support .ensures (produced (c .before .before .before .before .before .before .before .before .before .before .before .before .before .before .args .counts) (c .before .before .before .before .before .before .before .before .before .before .before .before .before .before .args .made) (c .before .before .before .before .before .before .before .before .before .before .before .before .before .before .args .producers .now) T))
 
 -- src/lib.rt:30:1
 same-length-3 : tie.Need-same-length-3
@@ -91,11 +93,11 @@ same-length-3 c = search needs
 
 -- src/lib.rt:30:1
 returns-8 : tie.Need-returns-8
-returns-8 c = ?
+returns-8 c = λ T. root-told (produced (c .before .before .before .before .before .before .before .before .before .before .before .before .args .counts) (c .before .before .before .before .before .before .before .before .before .before .before .before .args .made) (c .before .before .before .before .before .before .before .before .before .before .before .before .args .producers .now) T) (c .before .before .before .before .before .before .before .before .before .before .before .before .args .kept .now) (c .before .before .before .before .before .before .before .before .before .before .before .before .args .k) (c .before .before .before .before .before .before .before .before .before .before .before .before .args .holds) _ _ (c .before .before .before .before .before .before .before .before .before .reading .ensures) _ (c .before .before .before .before .before .before .before .p2 .given .1) (c .before .before .before .before .if5 .left) _ _ (c .before .before .root .ensures (produced (c .before .before .before .before .before .before .before .before .before .before .before .before .args .counts) (c .before .before .before .before .before .before .before .before .before .before .before .before .args .made) (c .before .before .before .before .before .before .before .before .before .before .before .before .args .producers .now) T))
 
 -- src/lib.rt:30:1
 returns-9 : tie.Need-returns-9
-returns-9 c = ?
+returns-9 c = λ T. unknown (produced (c .before .before .before .before .before .args .counts) (c .before .before .before .before .before .args .made) (c .before .before .before .before .before .args .producers .now) T) (c .before .before .before .before .before .args .kept .now) (c .before .before .before .before .before .args .k) (c .before .before .before .before .before .args .holds) _ _ (c .before .before .reading .ensures) (c .enum-told .given .1)
 
 pub update-reader-spec : {M : Type 1} → statement M
 update-reader-spec =

@@ -1,3 +1,7 @@
+use mathlib.Core.Path.{ap, _∙_}
+use Rattle.kept.specs.CountedSet.{lookup}
+use Rattle.kept_laws.specs.Given.{sized}
+use Rattle.verdict.specs.ToldLaws.{lent-falseRoots}
 use borrow.Author.Needs.{needs}
 use Rattle.verdict.proofs.first_false.Statement.{statement}
 use Rattle.verdict.proofs.first_false.Tie as tie
@@ -72,7 +76,7 @@ lowest-requires c κs = search needs
 
 -- src/lib.rt:46:1
 returns : tie.Need-returns
-returns c = ?
+returns c = λ T. c .lowest .ensures ∙ ap (λ s. lookup (c .before .before .before .before .before .args .counts .roots) 0 s) (lent-falseRoots (sized (c .before .before .before .before .before .args .counts) T) (c .before .before .before .before .before .args .kept .now) (c .before .before .before .before .before .pre .1) _ (c .before .word .ensures .0))
 
 pub first-false-spec : {M : Type 1} → statement M
 first-false-spec =

@@ -1,3 +1,7 @@
+use native.Mathlib.Omega.{arith}
+use Rattle.kept.specs.Layout.{ofWords}
+use Rattle.kept_laws.specs.Given.{sized}
+use Rattle.verdict.specs.ToldLaws.{told-below, not-model, roots-astray, residual-of, missing-astray, stable-of}
 use borrow.Author.Needs.{needs}
 use Rattle.verdict.proofs.judge.Statement.{statement}
 use Rattle.verdict.proofs.judge.Tie as tie
@@ -17,7 +21,7 @@ enum-known-p c = search needs
 
 -- src/lib.rt:74:57
 word-requires : tie.Need-word-requires
-word-requires c κs = ?
+word-requires c κs = let below = told-below (c .before .before .before .before .before .before .args .counts) (c .before .before .before .before .before .before .args .counts .roots) _ (λ T. ofWords (sized (c .before .before .before .before .before .before .args .counts) T) (c .before .before .before .before .before .before .args .kept .now) .falseRoots) _ (c .before .before .before .first-false .ensures) (c .before .p .given .1) in omega (arith, below, c .before .before .before .before .before .before .pre .1)
 
 -- src/lib.rt:75:27
 enum-told : tie.Need-enum-told
@@ -45,23 +49,23 @@ enum-told-4 c = search needs
 
 -- src/lib.rt:69:1
 returns : tie.Need-returns
-returns c = ?
+returns c = not-model (c .before .before .before .before .before .before .before .args .counts) (c .before .before .before .before .before .before .before .args .roots .now) (c .before .before .before .before .before .before .before .args .kept .now) _ (c .before .before .before .before .first-false .ensures) _ _ (c .before .before .p .given .1) (c .word .ensures .0)
 
 -- src/lib.rt:69:1
 returns-2 : tie.Need-returns-2
-returns-2 c = ?
+returns-2 c = roots-astray (c .before .before .before .before .before .args .counts) (c .before .before .before .before .before .args .roots .now) (c .before .before .before .before .before .args .kept .now) _ (c .before .before .first-false .ensures) (c .enum-told .given .1)
 
 -- src/lib.rt:69:1
 returns-3 : tie.Need-returns-3
-returns-3 c = ?
+returns-3 c = residual-of (c .before .before .before .before .before .before .before .before .before .args .counts) (c .before .before .before .before .before .before .before .before .before .args .roots .now) (c .before .before .before .before .before .before .before .before .before .args .kept .now) _ (c .before .before .before .before .before .before .first-false .ensures) (c .before .before .before .before .enum-told2 .given .1) _ (c .before .before .before .first-missing .ensures) _ (c .before .a .given .1)
 
 -- src/lib.rt:69:1
 returns-4 : tie.Need-returns-4
-returns-4 c = ?
+returns-4 c = missing-astray (c .before .before .before .before .before .before .before .before .args .counts) (c .before .before .before .before .before .before .before .before .args .roots .now) (c .before .before .before .before .before .before .before .before .args .kept .now) _ (c .before .before .before .before .before .first-false .ensures) (c .before .before .before .enum-told2 .given .1) _ (c .before .before .first-missing .ensures) (c .enum-told3 .given .1)
 
 -- src/lib.rt:69:1
 returns-5 : tie.Need-returns-5
-returns-5 c = ?
+returns-5 c = stable-of (c .before .before .before .before .before .before .before .before .args .counts) (c .before .before .before .before .before .before .before .before .args .roots .now) (c .before .before .before .before .before .before .before .before .args .kept .now) _ (c .before .before .before .before .before .first-false .ensures) (c .before .before .before .enum-told2 .given .1) _ (c .before .before .first-missing .ensures) (c .enum-told4 .given .1)
 
 pub judge-spec : {M : Type 1} → statement M
 judge-spec =

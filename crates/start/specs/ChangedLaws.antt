@@ -1,0 +1,76 @@
+-- How many atoms changed, word by word.
+-- Assumes nothing.
+use Prim.Native.Nat.{ℕ, zero, suc, _≤_, _+_, _*_, _/_, _%_, _^_}
+use native.Mathlib.Numerals.{add-one}
+use native.Mathlib.Omega.{arith}
+use mathlib.Core.Path.{_≡_, refl, ap, ap₂, sym, _∙_}
+use mathlib.Core.List.{List}
+use lib.ListN.{length, getD, length-map}
+use Rattle.base.specs.Places.{places, count, count-agree, count-most}
+use Rattle.words.specs.Bit.{bit}
+use Rattle.words.specs.BitLaws.{bit-xor}
+use Rattle.words.specs.Changed.{unlike, changed}
+use Rattle.words.specs.Sets.{member}
+use Rattle.kept.specs.SetOf.{words32}
+use Rattle.kept.specs.Tables.{Tables, atomCount}
+use Rattle.kept.specs.Evaluation.{Evaluation, present}
+use Rattle.kept.specs.Layout.{ofWords, used, candidateStart}
+use Rattle.kept.specs.LayoutLaws.{fits-of}
+use Rattle.kept.specs.Check.{changes}
+use Rattle.kept_laws.specs.Written.{get-candidate}
+use Rattle.kept_laws.specs.Halves.{half, difference, word-places, changes-next}
+
+pub half-read : (ws : List ℕ) (i : ℕ) → getD ws (i / 2) 0 / 2 ^ (i % 2 * 32) % 4294967296 ≡ half ws i
+unfolding half
+half-read ws i = refl
+
+-- the changes of the first i words that begin at a place
+unfoldable pub wordChanges : ℕ → List ℕ → List ℕ → ℕ → ℕ
+wordChanges at kept new zero = 0
+wordChanges at kept new (suc i) = wordChanges at kept new i + changed 32 (getD kept (at + i) 0) (half new i)
+
+pub changes-none : (at : ℕ) (kept new : List ℕ) → 0 ≡ wordChanges at kept new 0
+unfolding wordChanges
+changes-none at kept new = refl
+
+module _ (at : ℕ) (kept new : List ℕ) (i : ℕ) where
+  pub changes-more : (sum x y r : ℕ) → sum ≡ wordChanges at kept new i → x ≡ getD kept (at + i) 0 → y ≡ half new i → r ≡ changed 32 x y
+      → sum + r ≡ wordChanges at kept new (i + 1)
+  unfolding wordChanges
+  changes-more sum x y r p q h e = rw (add-one, p, e, q, h)
+
+word-most : (x y : ℕ) → changed 32 x y ≤ 32
+unfolding changed
+word-most x y = count-most (λ k. unlike (bit x k) (bit y k)) 0 32
+
+words-most : (at : ℕ) (kept new : List ℕ) (i : ℕ) → wordChanges at kept new i ≤ i * 32
+unfolding wordChanges
+words-most at kept new zero = omega arith
+words-most at kept new (suc i) = omega (arith, words-most at kept new i, word-most (getD kept (at + i) 0) (half new i))
+
+-- so that their sum is small
+pub changes-most : (at : ℕ) (kept new : List ℕ) (i sum x y r : ℕ) → sum ≡ wordChanges at kept new i → r ≡ changed 32 x y → sum + r ≤ i * 32 + 32
+changes-most at kept new i sum x y r p e = omega (arith, p, e, words-most at kept new i, word-most x y)
+
+-- those of a word are those of the atoms from its first place on
+word-differs : (kept new : List ℕ) (i : ℕ) → count (λ a. unlike (member 32 kept a) (member 64 new a)) (i * 32) 32 ≡ changed 32 (getD kept i 0) (half new i)
+unfolding count changed
+word-differs kept new i =
+    ap length (word-places kept new i) ∙ length-map (places (bit (difference kept new i)) 0 32) (λ k. i * 32 + k)
+    ∙ count-agree (bit (difference kept new i)) (λ k. unlike (bit (getD kept i 0) k) (bit (half new i) k)) 0 32 (λ k a b. bit-xor (getD kept i 0) (half new i) k)
+
+module _ (T : Tables) (ws new : List ℕ) (room : used T ≤ length ws) where
+  abbrev e : Evaluation
+  e = ofWords T ws
+
+  words-differ : (i : ℕ) → i ≤ words32 (atomCount T) → wordChanges (candidateStart T) ws new i ≡ count (λ a. unlike (present e a) (member 64 new a)) 0 (i * 32)
+  unfolding wordChanges count places
+  words-differ zero l = refl
+  words-differ (suc i) l =
+      ap₂ (λ x y. x + y) (words-differ i (omega arith)) (ap (λ x. changed 32 x (half new i)) (get-candidate T ws room i (omega arith)) ∙ sym (word-differs (e .candidate) new i))
+      ∙ sym (changes-next (λ a. unlike (present e a) (member 64 new a)) i)
+
+  pub words-changes : (sum i : ℕ) → sum ≡ wordChanges (candidateStart T) ws new i → i ≡ words32 (atomCount T) → sum ≡ changes (member 64 new) e
+  unfolding changes
+  words-changes sum i p q =
+      p ∙ words-differ i (omega arith) ∙ ap (λ n. count (λ a. unlike (present e a) (member 64 new a)) 0 (n * 32)) (q ∙ sym (fits-of T ws room .candidate))

@@ -1,0 +1,231 @@
+-- The start of the walk, word by word: the changed atoms of the words from i on are left.
+-- Assumes nothing.
+use Prim.Native.Nat.{ℕ, zero, suc, _<_, _≤_, _+_, _-_, _*_}
+use native.Mathlib.Omega.{arith}
+use mathlib.Core.Path.{_≡_, refl, ap, ap₂, sym, _∙_}
+use mathlib.Core.Logic.{⊎-elim}
+use mathlib.Core.Bool.{Bool, true, false}
+use mathlib.Core.List.{List, [], _∷_, _++_, append-nil}
+use mathlib.Core.Option.{Option, some, none}
+use lib.Arith.{digits-div, digits-mod}
+use lib.Bits.{bitXor}
+use lib.ListN.{length, getD}
+use Rattle.base.specs.Tests.{below-or}
+use Rattle.base.specs.Places.{places, places-yes, places-no, places-agree, places-split, places-none}
+use Rattle.formula.specs.Satisfaction.{Interpretation}
+use Rattle.formula.specs.Passes.{Within}
+use Rattle.words.specs.Bit.{bit}
+use Rattle.words.specs.BitLaws.{bit-xor}
+use Rattle.words.specs.Changed.{unlike}
+use Rattle.words.specs.Sets.{member}
+use Rattle.theory.specs.declared.Counts.{Counts}
+use Rattle.kept.specs.Tabulate.{tabulate-at}
+use Rattle.kept.specs.SetOf.{words32, setOf}
+use Rattle.kept.specs.SetOfLaws.{member-below, member-above}
+use Rattle.kept.specs.CountedSet.{andThen}
+use Rattle.kept.specs.Tables.{Tables, atomCount, nodeCount}
+use Rattle.kept.specs.Evaluation.{Evaluation, present}
+use Rattle.kept.specs.Start.{atomTurned, walkStart, leastNode, lowestEntered}
+use Rattle.kept.specs.Layout.{ofWords, used, candidateStart}
+use Rattle.kept.specs.LayoutLaws.{Fits, fits-of}
+use Rattle.kept_laws.specs.FitsLaws.{atom-fits}
+use Rattle.kept_laws.specs.OptionLaws.{some-is, then-some}
+use Rattle.kept_laws.specs.Halves.{half, halves, word-places}
+use Rattle.kept_laws.specs.StartChanged.{allTurned, start-changed, turned-present, least-node-more}
+use Rattle.kept_laws.specs.Written.{get-candidate, of-written}
+use Rattle.start.specs.declared.Entered.{Entered}
+use Rattle.start.specs.declared.Entered.the-variants.{Low, Stray}
+use Rattle.start.specs.Enters.{Enters}
+use Rattle.start.specs.WordLaws.{wordAtoms}
+use Rattle.start.specs.Onward.{enters-low, enters-stray, Onward, onward-first, onward-room, onward-stray, onward-done, onward-more}
+
+-- tables of which nothing is known but the counts
+abbrev pub blank : Counts → Tables
+blank t = record { counts = t; plan = 0; made = 0; nodes = []; operands = []; roots = []; producers = []; readers = [] }
+
+-- ---- atoms turned one after the other
+
+module _ (T : Tables) (J : Interpretation) where
+  turned-append : (xs ys : List ℕ) (e : Evaluation) → allTurned T J (xs ++ ys) e ≡ andThen (allTurned T J xs e) (allTurned T J ys)
+  unfolding allTurned
+  turned-append [] ys e = refl
+  turned-append (a ∷ xs) ys e = go (atomTurned T J a e) (turned-append xs ys)
+    where
+      go : (o : Option Evaluation) → ((d : Evaluation) → allTurned T J (xs ++ ys) d ≡ andThen (allTurned T J xs d) (allTurned T J ys))
+          → andThen o (allTurned T J (xs ++ ys)) ≡ andThen (andThen o (allTurned T J xs)) (allTurned T J ys)
+      go none ih = refl
+      go (some d) ih = ih d
+
+  lowest-append : (n : ℕ) (xs ys : List ℕ) → leastNode T n (xs ++ ys) ≡ leastNode T (leastNode T n xs) ys
+  unfolding leastNode
+  lowest-append n [] ys = refl
+  lowest-append n (a ∷ xs) ys = least-node-more T n a (xs ++ ys) ∙ lowest-append _ xs ys ∙ ap (λ m. leastNode T m ys) (sym (least-node-more T n a xs))
+
+  turned-fits : (xs : List ℕ) (e d : Evaluation) → allTurned T J xs e ≡ some d → Fits T e → Fits T d
+  unfolding allTurned
+  turned-fits [] e d h f = rw (some-is e d h) at f
+  turned-fits (a ∷ xs) e d h f = let p = then-some (atomTurned T J a e) (allTurned T J xs) d h in turned-fits xs (p .0) d (p .2) (atom-fits T J a e (p .0) (p .1) f)
+
+  -- the atoms behind them stay
+  turned-behind : (p : ℕ → Bool) → Within (atomCount T) p → (n s : ℕ) (e d : Evaluation) → Fits T e → allTurned T J (places p s n) e ≡ some d → (j : ℕ) → s + n ≤ j → present d j ≡ present e j
+  unfolding allTurned places
+  turned-behind p w zero s e d f h j l = ap (λ x. present x j) (sym (some-is e d h))
+  turned-behind p w (suc n) s e d f h j l = go (p s) refl (turned-behind p w n (s + 1))
+    where
+      go : (b : Bool) → p s ≡ b → ((c b : Evaluation) → Fits T c → allTurned T J (places p (s + 1) n) c ≡ some b → (j : ℕ) → s + 1 + n ≤ j → present b j ≡ present c j) → present d j ≡ present e j
+      go true q ih =
+          let t = then-some (atomTurned T J s e) (allTurned T J (places p (s + 1) n)) d (ap (λ xs. allTurned T J xs e) (sym (places-yes p s n q)) ∙ h) in
+          ih (t .0) d (atom-fits T J s e (t .0) (t .1) f) (t .2) j (omega arith) ∙ turned-present T J s j e (t .0) (t .1) f (w s q) (λ z. omega arith)
+      go false q ih = ih e d f (ap (λ xs. allTurned T J xs e) (sym (places-no p s n q)) ∙ h) j (omega arith)
+
+-- ---- a word's places
+
+-- a place of word i in a set
+place-member : (ws : List ℕ) (i k : ℕ) → k < 32 → member 32 ws (i * 32 + k) ≡ bit (getD ws i 0) k
+unfolding member
+place-member ws i k l = ap₂ (λ q r. bit (getD ws q 0) r) (digits-div i l) (digits-mod i l)
+
+not-within : (n : ℕ) (I : Interpretation) → Within n I → (j : ℕ) → n ≤ j → I j ≡ false
+not-within n I w j l = go (I j) refl
+  where
+    go : (b : Bool) → I j ≡ b → I j ≡ false
+    go true e = absurd (omega (arith, w j e))
+    go false e = e
+
+pub half-place : (new : List ℕ) (n i k x : ℕ) → Within n (member 64 new) → i < words32 n → x ≡ half new i → k < 32 → member 64 new (i * 32 + k) ≡ bit x k
+half-place new n i k x w m q l =
+    sym (⊎-elim
+    (λ b. member-below (member 64 new) n (i * 32 + k) b)
+    (λ b. member-above (member 64 new) n (i * 32 + k) b ∙ sym (not-within n (member 64 new) w (i * 32 + k) b))
+    (below-or (i * 32 + k) n))
+    ∙ place-member (setOf (member 64 new) n) i k l
+    ∙ ap (λ y. bit y k) (ap (λ ws. getD ws i 0) (sym (halves new n w)) ∙ tabulate-at (words32 n) (half new) 0 i m ∙ sym q)
+
+-- ---- the loop
+
+module _ (T : Tables) (new : List ℕ) (ws : List ℕ) where
+  abbrev J : Interpretation
+  J = member 64 new
+
+  abbrev e : Evaluation
+  e = ofWords T ws
+
+  abbrev D : ℕ → Bool
+  D a = unlike (present e a) (member 64 new a)
+
+  -- the changed atoms from word i on
+  unfoldable pub later : ℕ → List ℕ
+  later i = places D (i * 32) ((words32 (atomCount T) - i) * 32)
+
+  abbrev whole : Option Evaluation
+  whole = walkStart T J (atomCount T) e
+
+  abbrev lowest : ℕ
+  lowest = lowestEntered T J e
+
+  -- these are left, and are in the candidate as they were
+  pub record Starting (mid : List ℕ) (less i : ℕ) : Type 0 where
+    pub onward : Onward T ws whole lowest mid (allTurned T J (later i) (ofWords T mid)) (leastNode T less (later i))
+    pub same : (j : ℕ) → i * 32 ≤ j → present (ofWords T mid) j ≡ present e j
+
+  module _ (room : used T ≤ length ws) (wn : Within (atomCount T) (member 64 new)) (wk : Within (atomCount T) (present e)) where
+    differ-within : Within (atomCount T) D
+    differ-within a h = go (present e a) refl h
+      where
+        go : (b : Bool) → present e a ≡ b → unlike b (member 64 new a) ≡ true → a < atomCount T
+        go true p h = wk a p
+        go false p h = wn a h
+
+    all-later : later 0 ≡ places D 0 (atomCount T)
+    unfolding later
+    all-later =
+        let from : 0 * 32 ≡ 0 = omega arith in
+        let upto : (words32 (atomCount T) - 0) * 32 ≡ atomCount T + (words32 (atomCount T) * 32 - atomCount T) = omega arith in
+        rw (
+          from,
+          upto,
+          places-split D 0 (atomCount T) (words32 (atomCount T) * 32 - atomCount T),
+          places-none D (0 + atomCount T) (words32 (atomCount T) * 32 - atomCount T) (λ k a b. not-within (atomCount T) D differ-within k (omega arith)),
+          append-nil (places D 0 (atomCount T)),
+        )
+
+    none-later : later (words32 (atomCount T)) ≡ []
+    unfolding later places
+    none-later = let left : (words32 (atomCount T) - words32 (atomCount T)) * 32 ≡ 0 = omega arith in rw left
+
+    pub starting-first : Starting ws (nodeCount T) 0
+    unfolding lowestEntered
+    starting-first =
+        record {
+          onward = onward-first T ws whole lowest room (allTurned T J (later 0) e) (leastNode T (nodeCount T) (later 0))
+              (ap (λ xs. allTurned T J xs e) all-later ∙ sym (start-changed T J e (fits-of T ws room))) (ap (leastNode T (nodeCount T)) all-later);
+          same = λ j l. refl;
+        }
+
+    module _ (mid : List ℕ) (less i : ℕ) (s : Starting mid less i) where
+      turned-end : (d : Evaluation) → allTurned T J [] d ≡ some d
+      unfolding allTurned
+      turned-end d = refl
+
+      lowest-end : (n : ℕ) → leastNode T n [] ≡ n
+      unfolding leastNode
+      lowest-end n = refl
+
+      pub starting-done : i ≡ words32 (atomCount T) → Enters T ws whole lowest (Low less) mid
+      starting-done p =
+          let end : later i ≡ [] = ap later p ∙ none-later in
+          onward-done T ws whole lowest room mid (allTurned T J (later i) (ofWords T mid)) (leastNode T less (later i)) (s .onward) (Low less)
+          (ap (λ xs. allTurned T J xs (ofWords T mid)) end ∙ turned-end (ofWords T mid)) (ap Low (sym (lowest-end less) ∙ ap (leastNode T less) (sym end)))
+
+      module _ (l : i < words32 (atomCount T)) (x : ℕ) (q : x ≡ half new i) where
+        middle : used T ≤ length mid
+        middle = onward-room T ws whole lowest room mid (allTurned T J (later i) (ofWords T mid)) (leastNode T less (later i)) (s .onward)
+
+        abbrev y : ℕ
+        y = bitXor (getD mid (candidateStart T + i) 0) x
+
+        -- the places at which the words differ are atoms
+        pub starting-within : (k : ℕ) → k < 32 → bit y k ≡ true → i * 32 + k < atomCount T
+        starting-within k b h =
+            differ-within (i * 32 + k) (ap₂ unlike
+            (sym (s .same (i * 32 + k) (omega arith)) ∙ place-member (ofWords T mid .candidate) i k b ∙ ap (λ w. bit w k) (sym (get-candidate T mid middle i l)))
+            (half-place new (atomCount T) i k x wn l q b)
+            ∙ sym (bit-xor (getD mid (candidateStart T + i) 0) x k) ∙ h)
+
+        here : wordAtoms i y ≡ places D (i * 32) 32
+        here =
+            ap₂ (λ w v. wordAtoms i (bitXor w v)) (get-candidate T mid middle i l) q
+            ∙ sym (word-places (ofWords T mid .candidate) new i)
+            ∙ places-agree (λ a. unlike (present (ofWords T mid) a) (member 64 new a)) D (i * 32) 32 (λ a b c. ap (λ p. unlike p (member 64 new a)) (s .same a b))
+
+        split : later i ≡ wordAtoms i y ++ later (i + 1)
+        unfolding later
+        split =
+            let upto : (words32 (atomCount T) - i) * 32 ≡ 32 + (words32 (atomCount T) - (i + 1)) * 32 = omega arith in
+            let from : (i + 1) * 32 ≡ i * 32 + 32 = omega arith in
+            rw (upto, from, here) (places-split D (i * 32) 32 ((words32 (atomCount T) - (i + 1)) * 32))
+
+        go-on : allTurned T J (later i) (ofWords T mid) ≡ andThen (allTurned T J (wordAtoms i y) (ofWords T mid)) (allTurned T J (later (i + 1)))
+        go-on = ap (λ xs. allTurned T J xs (ofWords T mid)) split ∙ turned-append T J (wordAtoms i y) (later (i + 1)) (ofWords T mid)
+
+        module _ (r : Entered) (after : List ℕ) (h : Enters T mid (allTurned T J (wordAtoms i y) (ofWords T mid)) (leastNode T less (wordAtoms i y)) r after) where
+          pub starting-stray : r ≡ Stray → Enters T ws whole lowest Stray after
+          starting-stray p =
+              let f = enters-stray T mid (allTurned T J (wordAtoms i y) (ofWords T mid)) (leastNode T less (wordAtoms i y)) r after h p in
+              onward-stray T ws whole lowest room mid (allTurned T J (later i) (ofWords T mid)) (leastNode T less (later i)) (s .onward) after Stray
+              (go-on ∙ ap (λ o. andThen o (allTurned T J (later (i + 1)))) (f .0)) (f .1) refl
+
+          pub starting-more : (m : ℕ) → r ≡ Low m → Starting after m (i + 1)
+          starting-more m p =
+              let f = enters-low T mid (allTurned T J (wordAtoms i y) (ofWords T mid)) (leastNode T less (wordAtoms i y)) r after m h p in
+              let fits : Fits T (ofWords T mid) = fits-of T mid middle in
+              let g : Fits T (f .0) = turned-fits T J (wordAtoms i y) (ofWords T mid) (f .0) (f .1) fits in
+              let holds : ofWords T after ≡ f .0 = ap (ofWords T) (f .2) ∙ of-written T mid middle (f .0) g in
+              record {
+                onward = onward-more T ws whole lowest room mid (allTurned T J (later i) (ofWords T mid)) (leastNode T less (later i)) (s .onward)
+                    (allTurned T J (wordAtoms i y) (ofWords T mid)) (allTurned T J (later (i + 1))) (f .0) after (leastNode T m (later (i + 1))) go-on (f .1) g (f .2)
+                    (ap (λ n. leastNode T n (later (i + 1))) (f .3) ∙ sym (lowest-append T J less (wordAtoms i y) (later (i + 1))) ∙ ap (leastNode T less) (sym split));
+                same = λ j b. ap (λ d. present d j) holds
+                    ∙ turned-behind T J D differ-within 32 (i * 32) (ofWords T mid) (f .0) fits (ap (λ xs. allTurned T J xs (ofWords T mid)) (sym here) ∙ f .1) j (omega arith)
+                    ∙ s .same j (omega arith);
+              }

@@ -1,0 +1,159 @@
+-- The atoms of one word turned, lowest first.
+-- Assumes nothing.
+use Prim.Native.Nat.{ℕ, _<_, _≤_, _+_, _*_, _/_, _%_, _^_}
+use native.Mathlib.Omega.{arith}
+use mathlib.Core.Path.{_≡_, refl, ap, sym, _∙_}
+use mathlib.Core.Bool.{Bool, true, false}
+use mathlib.Core.List.{List, [], _∷_, map}
+use mathlib.Core.Option.{Option, some}
+use lib.Bits.{bitXor, xor-lt}
+use lib.Count.{trailingZeros}
+use lib.Dec.{eqb}
+use lib.ListN.{length}
+use lib.Pow.{pow-lt}
+use borrow.Author.Tests.{eqb-true}
+use Rattle.base.specs.Places.{places, places-none, count}
+use Rattle.formula.specs.Satisfaction.{Interpretation}
+use Rattle.words.specs.Bit.{bit}
+use Rattle.words.specs.BitLaws.{bit-zero, bit-xor, bit-power, one-shift, trailing-below, trailing-set, places-trailing}
+use Rattle.words.specs.Changed.{unlike}
+use Rattle.kept.specs.CountedSet.{andThen}
+use Rattle.kept.specs.Tables.{Tables, atomNodesAt}
+use Rattle.kept.specs.Evaluation.{Evaluation}
+use Rattle.kept.specs.Start.{atomTurned, least, orNone, leastNode}
+use Rattle.kept.specs.Layout.{ofWords, used}
+use Rattle.kept_laws.specs.FitsLaws.{atom-fits}
+use Rattle.kept_laws.specs.StartChanged.{allTurned, least-node-more}
+use Rattle.start.specs.declared.Entered.{Entered}
+use Rattle.start.specs.declared.Entered.the-variants.{Low, Stray}
+use Rattle.start.specs.Enters.{Enters}
+use Rattle.start.specs.Onward.{enters-low, enters-stray, Onward, onward-first, onward-fits, onward-stray, onward-done, onward-more}
+
+-- of word i, those at the set places of x
+abbrev pub wordAtoms : ℕ → ℕ → List ℕ
+wordAtoms i x = map (λ k. i * 32 + k) (places (bit x) 0 32)
+
+module _ (x : ℕ) (small : x < 2 ^ 32) (ne : x ≡ 0 → ⊥) where
+  abbrev t : ℕ
+  t = trailingZeros 32 x
+
+  abbrev other : ℕ
+  other = bitXor x ((1 * 2 ^ t) % 2 ^ 32)
+
+  place-fits : t < 32
+  place-fits = trailing-below 32 32 x (omega arith) small (omega arith)
+
+  place-set : bit x t ≡ true
+  place-set = trailing-set 32 x (omega arith) small
+
+  one : (1 * 2 ^ t) % 2 ^ 32 ≡ 2 ^ t
+  one = one-shift 32 t place-fits
+
+  other-small : other < 2 ^ 32
+  other-small = rw one (xor-lt 32 x (2 ^ t) small (pow-lt place-fits))
+
+  split : places (bit x) 0 32 ≡ t ∷ places (bit other) 0 32
+  split = rw one (places-trailing 32 x (omega arith) small)
+
+  other-less : count (bit other) 0 32 < count (bit x) 0 32
+  unfolding count
+  other-less = omega (arith, ap length split)
+
+  other-sub : (k : ℕ) → bit other k ≡ true → bit x k ≡ true
+  other-sub k h = go (bit x k) refl (rw one at h)
+    where
+      go : (b : Bool) → bit x k ≡ b → bit (bitXor x (2 ^ t)) k ≡ true → bit x k ≡ true
+      go true e h = e
+      go false e h =
+          let q : eqb t k ≡ true = sym (bit-power t k) ∙ sym (ap (λ b. unlike b (bit (2 ^ t) k)) e) ∙ sym (bit-xor x (2 ^ t) k) ∙ h in
+          ap (bit x) (sym (eqb-true t k q)) ∙ place-set
+
+  atoms-first : (i : ℕ) → wordAtoms i x ≡ (i * 32 + t) ∷ wordAtoms i other
+  atoms-first i = ap (map (λ k. i * 32 + k)) split
+
+-- x is a word, and its places are atoms of word i
+pub record Left (atoms i x : ℕ) : Type 0 where
+  pub small : x < 2 ^ 32
+  pub within : (k : ℕ) → k < 32 → bit x k ≡ true → i * 32 + k < atoms
+
+module _ (atoms i x : ℕ) (l : Left atoms i x) (ne : x ≡ 0 → ⊥) where
+  pub left-place : trailingZeros 32 x < 32
+  left-place = place-fits x (l .small) ne
+
+  pub left-atom : i * 32 + trailingZeros 32 x < atoms
+  left-atom = l .within (trailingZeros 32 x) left-place (place-set x (l .small) ne)
+
+  pub left-other : Left atoms i (bitXor x ((1 * 2 ^ trailingZeros 32 x) % 2 ^ 32))
+  left-other = record { small = other-small x (l .small) ne; within = λ k a h. l .within k a (other-sub x (l .small) ne k h) }
+
+  pub left-less : count (bit (bitXor x ((1 * 2 ^ trailingZeros 32 x) % 2 ^ 32))) 0 32 < count (bit x) 0 32
+  left-less = other-less x (l .small) ne
+
+-- the place as the code reads it in the new word
+pub place-read : (new t : ℕ) (b : Bool) → b ≡ bit new t → b ≡ eqb (new / 2 ^ t % 2) 1
+unfolding bit
+place-read new t b e = e
+
+atoms-none : (i : ℕ) → wordAtoms i 0 ≡ []
+atoms-none i = ap (map (λ k. i * 32 + k)) (places-none (bit 0) 0 32 (λ k a b. bit-zero k))
+
+module _ (T : Tables) (J : Interpretation) where
+  turned-none : (e : Evaluation) → allTurned T J [] e ≡ some e
+  unfolding allTurned
+  turned-none e = refl
+
+  turned-more : (a : ℕ) (rest : List ℕ) (e : Evaluation) → allTurned T J (a ∷ rest) e ≡ andThen (atomTurned T J a e) (allTurned T J rest)
+  unfolding allTurned
+  turned-more a rest e = refl
+
+  lowest-none : (n : ℕ) → leastNode T n [] ≡ n
+  unfolding leastNode
+  lowest-none n = refl
+
+  module _ (ws : List ℕ) (i y low : ℕ) where
+    abbrev whole : Option Evaluation
+    whole = allTurned T J (wordAtoms i y) (ofWords T ws)
+
+    abbrev lowest : ℕ
+    lowest = leastNode T low (wordAtoms i y)
+
+    -- of the places of y those of x are left
+    abbrev pub Turning : List ℕ → ℕ → ℕ → Type 0
+    Turning mid less x = Onward T ws whole lowest mid (allTurned T J (wordAtoms i x) (ofWords T mid)) (leastNode T less (wordAtoms i x))
+
+    module _ (room : used T ≤ length ws) where
+      pub turning-first : Turning ws low y
+      turning-first = onward-first T ws whole lowest room whole lowest refl refl
+
+      module _ (mid : List ℕ) (less x : ℕ) (w : Turning mid less x) where
+        abbrev rest : Option Evaluation
+        rest = allTurned T J (wordAtoms i x) (ofWords T mid)
+
+        pub turning-done : x ≡ 0 → Enters T ws whole lowest (Low less) mid
+        turning-done z =
+            onward-done T ws whole lowest room mid rest (leastNode T less (wordAtoms i x)) w (Low less)
+            (rw (z, atoms-none i) (turned-none (ofWords T mid))) (rw (z, atoms-none i, lowest-none less))
+
+        module _ (small : x < 2 ^ 32) (ne : x ≡ 0 → ⊥) (r : Entered) (after : List ℕ)
+            (h : Enters T mid (atomTurned T J (i * 32 + trailingZeros 32 x) (ofWords T mid)) (least less (orNone (atomNodesAt T (i * 32 + trailingZeros 32 x)))) r after) where
+          abbrev a : ℕ
+          a = i * 32 + trailingZeros 32 x
+
+          abbrev y' : ℕ
+          y' = bitXor x ((1 * 2 ^ trailingZeros 32 x) % 2 ^ 32)
+
+          go-on : rest ≡ andThen (atomTurned T J a (ofWords T mid)) (allTurned T J (wordAtoms i y'))
+          go-on = ap (λ l. allTurned T J l (ofWords T mid)) (atoms-first x small ne i) ∙ turned-more a (wordAtoms i y') (ofWords T mid)
+
+          pub turning-stray : r ≡ Stray → Enters T ws whole lowest Stray after
+          turning-stray s =
+              let f = enters-stray T mid (atomTurned T J a (ofWords T mid)) (least less (orNone (atomNodesAt T a))) r after h s in
+              onward-stray T ws whole lowest room mid rest (leastNode T less (wordAtoms i x)) w after Stray (go-on ∙ ap (λ o. andThen o (allTurned T J (wordAtoms i y'))) (f .0)) (f .1) refl
+
+          pub turning-more : (m : ℕ) → r ≡ Low m → Turning after m y'
+          turning-more m s =
+              let f = enters-low T mid (atomTurned T J a (ofWords T mid)) (least less (orNone (atomNodesAt T a))) r after m h s in
+              onward-more T ws whole lowest room mid rest (leastNode T less (wordAtoms i x)) w (atomTurned T J a (ofWords T mid)) (allTurned T J (wordAtoms i y')) (f .0) after
+              (leastNode T m (wordAtoms i y')) go-on (f .1)
+              (atom-fits T J a (ofWords T mid) (f .0) (f .1) (onward-fits T ws whole lowest room mid rest (leastNode T less (wordAtoms i x)) w)) (f .2)
+              (ap (λ n. leastNode T n (wordAtoms i y')) (f .3) ∙ sym (least-node-more T less a (wordAtoms i y')) ∙ ap (leastNode T less) (sym (atoms-first x small ne i)))

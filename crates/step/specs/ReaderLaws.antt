@@ -1,0 +1,64 @@
+-- What each branch on a reader gives: the reader was told, or it is a 17.
+-- Assumes nothing.
+use Prim.Native.Nat.{ℕ, _<_, _≤_}
+use mathlib.Core.Path.{_≡_, sym, _∙_}
+use mathlib.Core.Bool.{Bool, false}
+use mathlib.Core.List.{List}
+use mathlib.Core.Option.{none}
+use borrow.Author.Tests.{lt-ltb, le-ltb}
+use Rattle.readers.specs.declared.Reading.{Reading}
+use Rattle.readers.specs.declared.Reading.the-variants.{Node, Producer, Root, Unknown}
+use Rattle.kept.specs.Tables.{Tables, atomCount, nodeCount, rootCount, headAt}
+use Rattle.kept.specs.Evaluation.{Evaluation}
+use Rattle.kept.specs.Step.{entered, supportMoved, rootTurned, readerUpdated}
+use Rattle.kept.specs.Layout.{ofWords}
+use Rattle.kept_laws.specs.Wrote.{Wrote, beside-same, wrote-none}
+
+-- the word reads x, which the code found as r
+module _ (T : Tables) (ws : List ℕ) (k : ℕ) (t : Bool) (x r : Reading) (is : r ≡ x) where
+  abbrev e : Evaluation
+  e = ofWords T ws
+
+  refused : readerUpdated T k t e x ≡ none → Wrote T ws (readerUpdated T k t e x) false ws
+  refused h = wrote-none T ws (readerUpdated T k t e x) ws h (beside-same T ws)
+
+  -- a node that is not above k, or no node
+  pub node-below : (m : ℕ) → r ≡ Node m → m ≤ k → Wrote T ws (readerUpdated T k t e x) false ws
+  unfolding readerUpdated
+  node-below m p l = refused (rw (sym is ∙ p, le-ltb k m l))
+
+  pub node-past : (m : ℕ) → r ≡ Node m → k < m → nodeCount T ≤ m → Wrote T ws (readerUpdated T k t e x) false ws
+  unfolding readerUpdated
+  node-past m p l h = refused (rw (sym is ∙ p, lt-ltb k m l, le-ltb m (nodeCount T) h))
+
+  pub node-told : (m : ℕ) → r ≡ Node m → k < m → m < nodeCount T → (ok : Bool) (after : List ℕ) → Wrote T ws (entered T m e) ok after
+      → Wrote T ws (readerUpdated T k t e x) ok after
+  unfolding readerUpdated
+  node-told m p l h ok after w = rw (sym is ∙ p, lt-ltb k m l, lt-ltb m (nodeCount T) h) w
+
+  -- no producer, or one whose head a is no atom
+  pub producer-past : (p : ℕ) → r ≡ Producer p → T .made ≤ p → Wrote T ws (readerUpdated T k t e x) false ws
+  unfolding readerUpdated
+  producer-past p q l = refused (rw (sym is ∙ q, le-ltb p (T .made) l))
+
+  pub head-past : (p a : ℕ) → r ≡ Producer p → p < T .made → a ≡ headAt T p → atomCount T ≤ a → Wrote T ws (readerUpdated T k t e x) false ws
+  unfolding readerUpdated
+  head-past p a q l s h = refused (rw (sym is ∙ q, lt-ltb p (T .made) l, sym s, le-ltb a (atomCount T) h))
+
+  pub producer-told : (p a : ℕ) → r ≡ Producer p → p < T .made → a ≡ headAt T p → a < atomCount T → (ok : Bool) (after : List ℕ)
+      → Wrote T ws (supportMoved T t a e) ok after → Wrote T ws (readerUpdated T k t e x) ok after
+  unfolding readerUpdated
+  producer-told p a q l s h ok after w = rw (sym is ∙ q, lt-ltb p (T .made) l, sym s, lt-ltb a (atomCount T) h) w
+
+  pub root-past : (p : ℕ) → r ≡ Root p → rootCount T ≤ p → Wrote T ws (readerUpdated T k t e x) false ws
+  unfolding readerUpdated
+  root-past p q l = refused (rw (sym is ∙ q, le-ltb p (rootCount T) l))
+
+  pub root-told : (p : ℕ) → r ≡ Root p → p < rootCount T → (ok : Bool) (after : List ℕ) → Wrote T ws (rootTurned T t p e) ok after
+      → Wrote T ws (readerUpdated T k t e x) ok after
+  unfolding readerUpdated
+  root-told p q l ok after w = rw (sym is ∙ q, lt-ltb p (rootCount T) l) w
+
+  pub unknown : r ≡ Unknown → Wrote T ws (readerUpdated T k t e x) false ws
+  unfolding readerUpdated
+  unknown q = refused (rw (sym is ∙ q))

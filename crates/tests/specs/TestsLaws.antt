@@ -1,0 +1,169 @@
+-- What each branch of the tests and of a kept check's condition gives, as code meets them.
+-- Assumes nothing.
+use Prim.Native.Nat.{ℕ, max, _+_, _*_, _/_, _^_, _<_, _≤_}
+use native.Mathlib.Omega.{arith}
+use mathlib.Core.Path.{_≡_, refl, ap, sym, _∙_}
+use mathlib.Core.Bool.{Bool, true, false, cond, _&&_}
+use mathlib.Core.List.{List, [], _∷_, _++_}
+use lib.Dec.{eqb, ltb, leb}
+use lib.ListN.{length, getD, take, drop, set, replicate, length-replicate, replicate-append-replicate}
+use lib.Seq.{length-take-le}
+use borrow.Author.Tests.{eq-eqb, ne-eqb, lt-ltb, le-ltb, ltb-false}
+use Rattle.base.specs.Front.{front, front-more}
+use Rattle.formula.specs.Satisfaction.{Interpretation}
+use Rattle.theory.specs.Admission.{orElse}
+use Rattle.theory.specs.Limits.{limitsOf, Limited}
+use Rattle.theory.specs.Refusals.{not-both}
+use Rattle.theory.specs.declared.Counts.{Counts}
+use Rattle.theory.specs.declared.Admission.{Admission}
+use Rattle.theory.specs.declared.Admission.the-variants.{Admitted, Refused}
+use Rattle.theory.specs.declared.Refusal.{Refusal}
+use Rattle.theory.specs.declared.Refusal.the-variants.{ShortBuffer, ForeignStamp, StrayBit}
+use Rattle.words.specs.Next.{next}
+use Rattle.kept.specs.Candidate.{Candidate}
+use Rattle.kept.specs.Check.{changes, isKept}
+use Rattle.kept.specs.Layout.{ofWords}
+use Rattle.kept.specs.SetOf.{words64}
+use Rattle.kept.specs.Tables.{Tables}
+use Rattle.kept.specs.Tests.{Buffer, buffer, buffers, firstShort, stamps, strayBit, tests}
+use Rattle.kept_laws.specs.Given.{sized}
+use Rattle.kept_laws.specs.Written.{get-state, get-stamp}
+use Rattle.tests.specs.Lent.{buffersBy, Sizes}
+use Rattle.tests.specs.declared.Lengths.{Lengths}
+
+-- ---- 3 and 9
+
+passed : (x : Bool) (r : Refusal) (rest : Admission) → cond x (Refused r) rest ≡ Admitted → (x ≡ false) × (rest ≡ Admitted)
+passed true r rest e = absurd (not-both r e)
+passed false r rest e = (refl, e)
+
+pub within-limits : (t : Counts) → limitsOf t ≡ Admitted → Limited t
+unfolding limitsOf
+within-limits t e =
+    let a = passed (ltb 65536 (t .atoms)) _ _ e in
+    let b = passed (ltb 262144 (t .nodes)) _ _ (a .1) in
+    let c = passed (ltb 1048576 (t .operands)) _ _ (b .1) in
+    let d = passed (ltb 262144 (t .roots)) _ _ (c .1) in
+    record { atoms = ltb-false _ _ (a .0); nodes = ltb-false _ _ (b .0); operands = ltb-false _ _ (c .0); roots = ltb-false _ _ (d .0) }
+
+module _ (b : Buffer) (bs : List Buffer) where
+  pub short-here : b .lent < b .least → Refused (ShortBuffer (b .number)) ≡ firstShort (b ∷ bs)
+  unfolding firstShort
+  short-here l = rw (lt-ltb (b .lent) (b .least) l)
+
+  pub long-here : (r : Admission) → b .least ≤ b .lent → r ≡ firstShort bs → r ≡ firstShort (b ∷ bs)
+  unfolding firstShort
+  long-here r l e = rw (le-ltb (b .lent) (b .least) l) e
+
+  -- the first is long enough
+  pub first-long : firstShort (b ∷ bs) ≡ Admitted → b .least ≤ b .lent
+  unfolding firstShort
+  first-long e = ltb-false (b .lent) (b .least) (passed (ltb (b .lent) (b .least)) (ShortBuffer (b .number)) (firstShort bs) e .0)
+
+pub all-long : Admitted ≡ firstShort []
+unfolding firstShort
+all-long = refl
+
+-- ---- 16, whatever the rest of the tables is
+
+module _ (t : Counts) (ws : List ℕ) (long : words64 (t .atoms) ≤ length ws) where
+  abbrev listed : List ℕ
+  listed = take (words64 (t .atoms)) ws
+
+  size : length listed ≡ words64 (t .atoms)
+  size = length-take-le (words64 (t .atoms)) ws long
+
+  -- the candidate's words for the atoms may be searched
+  pub searchable : Limited t → (t .atoms ≤ 64 * length listed) × (64 * length listed < 2 ^ 64)
+  searchable limited = (omega (arith, size), omega (arith, size, limited .atoms))
+
+  module _ (i : ℕ) (at : i ≡ next 64 listed (t .atoms)) where
+    pub stray-found : i < 64 * words64 (t .atoms) → (T : Tables) (stamp : ℕ) → Refused (StrayBit i) ≡ strayBit (sized t T) (record { stamp = stamp; words = ws })
+    unfolding strayBit
+    stray-found l T stamp = rw (← at, size, lt-ltb i (64 * words64 (t .atoms)) l)
+
+    pub stray-none : 64 * words64 (t .atoms) ≤ i → (T : Tables) (stamp : ℕ) → Admitted ≡ strayBit (sized t T) (record { stamp = stamp; words = ws })
+    unfolding strayBit
+    stray-none l T stamp = rw (← at, size, le-ltb i (64 * words64 (t .atoms)) l)
+
+-- ---- all of them
+
+module _ (t : Counts) (plan stamp : ℕ) (ws : List ℕ) (l : Lengths) (all : l .candidate ≡ length ws) where
+  abbrev given : Candidate
+  given = record { stamp = stamp; words = ws }
+
+  abbrev Answers : Admission → Type 0
+  Answers r = (T : Tables) → Sizes T t plan l → r ≡ tests T given (l .kept)
+
+  same : (T : Tables) → Sizes T t plan l → firstShort (buffers T given (l .kept)) ≡ firstShort (buffersBy t l)
+  same T z = rw (z .counts, ← all, z .nodes, z .operands, z .roots, z .producers, z .readers)
+
+  split : (T : Tables) → Sizes T t plan l → (a b : Admission) → limitsOf t ≡ a → firstShort (buffersBy t l) ≡ b
+      → tests T given (l .kept) ≡ orElse a (orElse b (orElse (stamps T given) (strayBit T given)))
+  unfolding tests
+  split T z a b p q = rw (same T z, q, ap limitsOf (z .counts) ∙ p)
+
+  pub limit-refused : (r : Refusal) → limitsOf t ≡ Refused r → Answers (Refused r)
+  limit-refused r p T z = sym (split T z (Refused r) (firstShort (buffersBy t l)) p refl)
+
+  module _ (limited : limitsOf t ≡ Admitted) where
+    pub short-refused : (r : Refusal) → firstShort (buffersBy t l) ≡ Refused r → Answers (Refused r)
+    short-refused r q T z = sym (split T z Admitted (Refused r) limited q)
+
+    module _ (long : firstShort (buffersBy t l) ≡ Admitted) where
+      pub candidate-long : words64 (t .atoms) ≤ length ws
+      candidate-long = omega (arith, all, first-long (buffer 0 (words64 (t .atoms)) (l .candidate)) _ long)
+
+      stamped : (x y : Bool) → eqb stamp (t .stamp) ≡ x → eqb plan (t .stamp) ≡ y → (T : Tables) → Sizes T t plan l
+          → tests T given (l .kept) ≡ orElse (cond (x && y) Admitted (Refused ForeignStamp)) (strayBit T given)
+      unfolding stamps
+      stamped x y p q T z = split T z Admitted Admitted limited long ∙ rw (z .counts, z .stamp, p, q)
+
+      pub candidate-foreign : (stamp ≡ t .stamp → ⊥) → Answers (Refused ForeignStamp)
+      candidate-foreign n T z = sym (stamped false (eqb plan (t .stamp)) (ne-eqb stamp (t .stamp) n) refl T z)
+
+      module _ (own : stamp ≡ t .stamp) where
+        pub plan-foreign : (plan ≡ t .stamp → ⊥) → Answers (Refused ForeignStamp)
+        plan-foreign n T z = sym (stamped true false (eq-eqb stamp (t .stamp) own) (ne-eqb plan (t .stamp) n) T z)
+
+        pub stray-left : plan ≡ t .stamp → (r : Admission) → ((T : Tables) (s : ℕ) → r ≡ strayBit (sized t T) (record { stamp = s; words = ws })) → Answers r
+        stray-left p r q T z =
+            q T stamp ∙ ap (λ x. strayBit (sized x T) given) (sym (z .counts))
+            ∙ sym (stamped true true (eq-eqb stamp (t .stamp) own) (eq-eqb plan (t .stamp) p) T z)
+
+-- ---- a kept check, n atoms changed
+
+module _ (t : Counts) (ws : List ℕ) (n : ℕ) where
+  abbrev Holds : Bool → Type 0
+  Holds r = (T : Tables) (J : Interpretation) → n ≡ changes J (ofWords (sized t T) ws) → r ≡ isKept 64 8 (sized t T) J (ofWords (sized t T) ws)
+
+  kept-by : (x y : Bool) → eqb (getD ws 0 0) 1 ≡ x → eqb (getD ws 1 0) (t .stamp) ≡ y → Holds (x && y && leb n (max 64 (t .atoms / 8)))
+  unfolding isKept
+  kept-by x y p q T J e =
+      three (eqb (ofWords (sized t T) ws .state) 1) (eqb (ofWords (sized t T) ws .stamp) (t .stamp)) x y (changes J (ofWords (sized t T) ws))
+      (ap (λ k. eqb k 1) (sym (get-state (sized t T) ws)) ∙ p) (ap (λ k. eqb k (t .stamp)) (sym (get-stamp (sized t T) ws)) ∙ q) e
+    where
+      three : (a b x y : Bool) (m : ℕ) → a ≡ x → b ≡ y → n ≡ m → (x && y && leb n (max 64 (t .atoms / 8))) ≡ (a && b && leb m (max 64 (t .atoms / 8)))
+      three a b x y m u v w = rw (u, v, w)
+
+  pub none-held : (getD ws 0 0 ≡ 1 → ⊥) → Holds false
+  none-held h = kept-by false (eqb (getD ws 1 0) (t .stamp)) (ne-eqb (getD ws 0 0) 1 h) refl
+
+  module _ (held : getD ws 0 0 ≡ 1) where
+    pub other-held : (getD ws 1 0 ≡ t .stamp → ⊥) → Holds false
+    other-held h = kept-by true false (eq-eqb (getD ws 0 0) 1 held) (ne-eqb (getD ws 1 0) (t .stamp) h)
+
+    pub few-changed : (m : ℕ) → getD ws 1 0 ≡ t .stamp → m ≡ max 64 (t .atoms / 8) → Holds (leb n m)
+    few-changed m s q T J e = rw q (kept-by true true (eq-eqb (getD ws 0 0) 1 held) (eq-eqb (getD ws 1 0) (t .stamp) s) T J e)
+
+-- ---- clearing
+
+module _ (ws xs : List ℕ) (i : ℕ) (e : xs ≡ front (replicate i 0) ws) where
+  pub zeros-more : i < length ws → set xs i 0 ≡ front (replicate (i + 1) 0) ws
+  zeros-more h =
+      ap (λ l. set l i 0) e ∙ front-more (replicate i 0) ws 0 i (sym (length-replicate {A = ℕ} i 0)) h
+      ∙ ap (λ l. front l ws) (replicate-append-replicate {A = ℕ} i 1 0)
+
+  pub zeros-up-to : (n : ℕ) → i ≤ n → n ≤ i → xs ≡ replicate n 0 ++ drop n ws
+  unfolding front
+  zeros-up-to n a b = let q : i ≡ n = omega arith in e ∙ rw (q, length-replicate {A = ℕ} n 0)

@@ -1,0 +1,183 @@
+-- The walk as a loop of steps, and what comes before it.
+-- Assumes nothing.
+use Prim.Native.Nat.{ℕ, suc, _<_, _≤_, _+_, _-_, _*_}
+use native.Mathlib.Omega.{arith}
+use mathlib.Core.Path.{_≡_, refl, ap, ap₂, sym, _∙_}
+use mathlib.Core.Bool.{Bool, true, false, cond}
+use mathlib.Core.List.{List}
+use mathlib.Core.Option.{Option, some, none}
+use lib.Dec.{ltb}
+use lib.ListN.{length, take, drop}
+use borrow.Author.Tests.{ltb-false}
+use Rattle.formula.specs.Satisfaction.{Interpretation}
+use Rattle.formula.specs.Passes.{Within}
+use Rattle.theory.specs.declared.Refusal.the-variants.{BadEntry}
+use Rattle.words.specs.Next.{next}
+use Rattle.kept.specs.SetOf.{words32}
+use Rattle.kept.specs.Tables.{Tables, atomCount, nodeCount}
+use Rattle.kept.specs.Evaluation.{Evaluation, present}
+use Rattle.kept.specs.Verdict.{verdictOf}
+use Rattle.kept.specs.Step.{Stepped, idle, took, fault, step}
+use Rattle.kept.specs.Start.{walkStart, lowestEntered}
+use Rattle.kept.specs.Walk.{broken, walk, walkFrom, keptWalk}
+use Rattle.kept.specs.Check.{Result, refused, concluded, keptResult}
+use Rattle.kept.specs.Layout.{section, ofWords, written, candidateStart, missingStart, used}
+use Rattle.kept.specs.LayoutLaws.{Fits, image-of, length-unused, fits-of}
+use Rattle.kept_laws.specs.Stores.{read-candidate}
+use Rattle.kept_laws.specs.FitsLaws.{step-fits, start-fits}
+use Rattle.kept_laws.specs.WalkEnds.{step-next}
+use Rattle.kept_laws.specs.Turns.{resumed, resumed-none, walk-more, walk-done, walk-stop}
+use Rattle.kept_laws.specs.Written.{written-same, of-written, length-written, written-again}
+use Rattle.kept_laws.specs.Wrote.{Beside, beside-same, beside-then, beside-written}
+use Rattle.step.specs.Steps.{Steps}
+use Rattle.step.specs.declared.Taking.{Taking}
+use Rattle.step.specs.declared.Taking.the-variants.{Idle, Took, Fault}
+use Rattle.start.specs.KeptWithin.{kept-within}
+use Rattle.start.specs.Enters.{Enters}
+use Rattle.start.specs.declared.Entered.{Entered}
+use Rattle.start.specs.declared.Entered.the-variants.{Low, Stray}
+use Rattle.update.specs.declared.Checked.{Checked}
+use Rattle.update.specs.declared.Checked.the-variants.{Refused}
+use Rattle.update.specs.Results.{answerOf, answerIn, Results}
+use Rattle.update.specs.ResultsLaws.{refused-results, concluded-results, results-by, results-then}
+
+-- ---- what a caller learns from the answer of a step
+
+module _ (T : Tables) (ws : List ℕ) (r : Taking) (after : List ℕ) where
+  pub stepped-idle : (s : Stepped) → Steps T ws s r after → r ≡ Idle → (s ≡ idle) × (after ≡ ws)
+  stepped-idle idle h e = (refl, h .1)
+  stepped-idle (took k d) h e = let p : Took k ≡ Idle = sym (h .0) ∙ e in let z : _≡_ {A = ℕ} 0 1 = cc in absurd (omega arith)
+  stepped-idle (fault k) h e = let p : Fault k ≡ Idle = sym (h .0) ∙ e in let z : _≡_ {A = ℕ} 0 1 = cc in absurd (omega arith)
+
+  pub stepped-took : (s : Stepped) (k : ℕ) → Steps T ws s r after → r ≡ Took k → (d : Evaluation) × (s ≡ took k d) × (after ≡ written T ws d)
+  stepped-took idle k h e = let p : Idle ≡ Took k = sym (h .0) ∙ e in let z : _≡_ {A = ℕ} 0 1 = cc in absurd (omega arith)
+  stepped-took (took j d) k h e =
+      let p : Took j ≡ Took k = sym (h .0) ∙ e in
+      let q : j ≡ k = cc in
+      (d, ap (λ m. took m d) q, h .1)
+  stepped-took (fault j) k h e = let p : Fault j ≡ Took k = sym (h .0) ∙ e in let z : _≡_ {A = ℕ} 0 1 = cc in absurd (omega arith)
+
+  pub stepped-fault : (s : Stepped) (k : ℕ) → Steps T ws s r after → r ≡ Fault k → (s ≡ fault k) × Beside T ws after
+  stepped-fault idle k h e = let p : Idle ≡ Fault k = sym (h .0) ∙ e in let z : _≡_ {A = ℕ} 0 1 = cc in absurd (omega arith)
+  stepped-fault (took j d) k h e = let p : Took j ≡ Fault k = sym (h .0) ∙ e in let z : _≡_ {A = ℕ} 0 1 = cc in absurd (omega arith)
+  stepped-fault (fault j) k h e =
+      let p : Fault j ≡ Fault k = sym (h .0) ∙ e in
+      let q : j ≡ k = cc in
+      (ap fault q, h .1)
+
+-- ---- the loop: n nodes are behind, the words are `now`, the nodes below i have been gone over
+
+pub record Walking (T : Tables) (ws : List ℕ) (from n i : ℕ) (now : List ℕ) : Type 0 where
+  pub fits : Fits T (ofWords T now)
+  pub put : now ≡ written T ws (ofWords T now)
+  pub left : resumed T 0 (walk T (suc (nodeCount T)) from (ofWords T ws)) ≡ resumed T n (walk T (suc (nodeCount T)) i (ofWords T now))
+
+module _ (T : Tables) (ws : List ℕ) (long : used T ≤ length ws) (from : ℕ) where
+  abbrev whole : Result
+  whole = resumed T 0 (walk T (suc (nodeCount T)) from (ofWords T ws))
+
+  pub walk-begins : Walking T ws from 0 from ws
+  walk-begins = record { fits = fits-of T ws long; put = sym (written-same T ws long); left = refl }
+
+  module _ (n i : ℕ) (now : List ℕ) (w : Walking T ws from n i now) (r : Taking) (after : List ℕ) (h : Steps T now (step T i (ofWords T now)) r after) where
+    mid-long : used T ≤ length now
+    mid-long = rw (ap length (w .put) ∙ length-written T ws long (ofWords T now) (w .fits)) long
+
+    -- a node was taken
+    pub walk-turns : (k : ℕ) → i ≤ nodeCount T → r ≡ Took k → Walking T ws from (n + 1) (k + 1) after × (i ≤ k) × (k < nodeCount T)
+    walk-turns k l e =
+        let s = stepped-took T now r after (step T i (ofWords T now)) k h e in
+        let g : Fits T (s .0) = step-fits T i (ofWords T now) k (s .0) (s .1) (w .fits) in
+        let holds : ofWords T after ≡ s .0 = ap (ofWords T) (s .2) ∙ of-written T now mid-long (s .0) g in
+        let b = step-next T i k (ofWords T now) (s .0) (s .1) in
+        (record {
+          fits = rw holds g;
+          put = s .2 ∙ ap (λ y. written T y (s .0)) (w .put) ∙ written-again T ws long (ofWords T now) (w .fits) (s .0) ∙ ap (written T ws) (sym holds);
+          left = w .left ∙ walk-more T n i k (ofWords T now) (s .0) l (s .1) ∙ ap (λ y. resumed T (n + 1) (walk T (suc (nodeCount T)) (k + 1) y)) (sym holds);
+        }, b .0, b .1)
+
+    -- the worklist is empty
+    pub walk-stands : r ≡ Idle → (c : Checked) → answerOf c ≡ answerIn (concluded (verdictOf T (ofWords T after)) n (ofWords T after)) → Results T ws whole c after
+    walk-stands e c a =
+        let s = stepped-idle T now r after (step T i (ofWords T now)) h e in
+        concluded-results T ws whole (verdictOf T (ofWords T now)) n (ofWords T now) c after long (w .fits)
+        (w .left ∙ walk-done T n i (ofWords T now) (s .0))
+        (a ∙ ap (λ y. answerIn (concluded (verdictOf T (ofWords T y)) n (ofWords T y))) (s .1))
+        (s .1 ∙ w .put)
+
+    -- 17
+    pub walk-breaks : (k : ℕ) → r ≡ Fault k → Results T ws whole (Refused (BadEntry k)) after
+    walk-breaks k e =
+        let s = stepped-fault T now r after (step T i (ofWords T now)) k h e in
+        refused-results T ws whole (BadEntry k) after (w .left ∙ walk-stop T n i k (ofWords T now) (s .0))
+        (beside-then T ws now after (rw (w .put) (beside-written T ws (ofWords T now) long (w .fits))) (s .1))
+
+-- ---- before it
+
+module _ (T : Tables) (J : Interpretation) (ws : List ℕ) (long : used T ≤ length ws) where
+  abbrev e : Evaluation
+  e = ofWords T ws
+
+  abbrev stray : Bool
+  stray = ltb (next 32 (e .candidate) (atomCount T)) (32 * length (e .candidate))
+
+  abbrev result : Result
+  result = keptResult T (keptWalk T J e)
+
+  candidate-part : take (missingStart T - candidateStart T) (drop (candidateStart T) ws) ≡ e .candidate
+  candidate-part =
+      ap (λ l. take (missingStart T - candidateStart T) (drop (candidateStart T) l)) (sym (image-of T ws long))
+      ∙ read-candidate T e (fits-of T ws long) (section T ws 1) (section T ws 8) (length-unused T ws long)
+
+  -- as the code finds it, in that part of the words
+  pub stray-in : (r : ℕ) → r ≡ next 32 (take (missingStart T - candidateStart T) (drop (candidateStart T) ws)) (atomCount T) → ltb r (32 * words32 (atomCount T)) ≡ stray
+  stray-in r h = ap₂ (λ x y. ltb x (32 * y)) (h ∙ ap (λ l. next 32 l (atomCount T)) candidate-part) (sym (fits-of T ws long .candidate))
+
+  -- without it, the kept candidate has atoms alone
+  pub not-stray : stray ≡ false → Within (atomCount T) (present e)
+  not-stray h =
+      kept-within T ws long
+      (rw candidate-part (omega (arith, fits-of T ws long .candidate, ltb-false (next 32 (e .candidate) (atomCount T)) (32 * length (e .candidate)) h)))
+
+  pub update-stray : stray ≡ true → Results T ws result (Refused (BadEntry 0)) ws
+  unfolding keptWalk keptResult
+  update-stray h = refused-results T ws result (BadEntry 0) ws (rw h) (beside-same T ws)
+
+  module _ (h : stray ≡ false) (r : Entered) (mid : List ℕ) where
+    entered-stray : (o : Option Evaluation) (low : ℕ) → Enters T ws o low r mid → r ≡ Stray → (o ≡ none) × Beside T ws mid
+    entered-stray none low w p = (refl, w .1)
+    entered-stray (some d) low w p = let q : Low low ≡ Stray = sym (w .0) ∙ p in let z : _≡_ {A = ℕ} 0 1 = cc in absurd (omega arith)
+
+    entered-low : (o : Option Evaluation) (low from : ℕ) → Enters T ws o low r mid → r ≡ Low from → (d : Evaluation) × (o ≡ some d) × (low ≡ from) × (mid ≡ written T ws d)
+    entered-low none low from w p = let q : Stray ≡ Low from = sym (w .0) ∙ p in let z : _≡_ {A = ℕ} 0 1 = cc in absurd (omega arith)
+    entered-low (some d) low from w p =
+        let q : Low low ≡ Low from = sym (w .0) ∙ p in
+        let s : low ≡ from = cc in
+        (d, refl, s, w .1)
+
+    pub update-fault : Enters T ws (walkStart T J (atomCount T) e) (lowestEntered T J e) r mid → r ≡ Stray → Results T ws result (Refused (BadEntry 0)) mid
+    unfolding keptWalk keptResult
+    update-fault w p =
+        let s = entered-stray (walkStart T J (atomCount T) e) (lowestEntered T J e) w p in
+        refused-results T ws result (BadEntry 0) mid (rw (h, s .0)) (s .1)
+
+    pub update-walk : (from : ℕ) → Enters T ws (walkStart T J (atomCount T) e) (lowestEntered T J e) r mid → r ≡ Low from → (c : Checked) (after : List ℕ)
+        → Results T mid (resumed T 0 (walk T (suc (nodeCount T)) from (ofWords T mid))) c after → Results T ws result c after
+    unfolding keptWalk
+    update-walk from w p c after x =
+        let s = entered-low (walkStart T J (atomCount T) e) (lowestEntered T J e) from w p in
+        let f : Fits T (s .0) = start-fits T J (atomCount T) e (s .0) (s .1) (fits-of T ws long) in
+        let holds : ofWords T mid ≡ s .0 = ap (ofWords T) (s .3) ∙ of-written T ws long (s .0) f in
+        results-by T ws result (resumed T 0 (walk T (suc (nodeCount T)) from (ofWords T mid))) c after
+        (ap (λ b. keptResult T (cond b (broken 0) (walkFrom T (lowestEntered T J e) (walkStart T J (atomCount T) e)))) h
+        ∙ ap (λ o. keptResult T (walkFrom T (lowestEntered T J e) o)) (s .1)
+        ∙ resumed-none T (walk T (suc (nodeCount T)) (lowestEntered T J e) (s .0))
+        ∙ ap (λ j. resumed T 0 (walk T (suc (nodeCount T)) j (s .0))) (s .2)
+        ∙ ap (λ y. resumed T 0 (walk T (suc (nodeCount T)) from y)) (sym holds))
+        (results-then T ws mid (s .0) long f (s .3) (resumed T 0 (walk T (suc (nodeCount T)) from (ofWords T mid))) c after x)
+
+    -- how long the words are, and where the walk begins
+    pub update-low : (from : ℕ) → Enters T ws (walkStart T J (atomCount T) e) (lowestEntered T J e) r mid → r ≡ Low from → (length mid ≡ length ws) × (lowestEntered T J e ≡ from)
+    update-low from w p =
+        let s = entered-low (walkStart T J (atomCount T) e) (lowestEntered T J e) from w p in
+        (ap length (s .3) ∙ length-written T ws long (s .0) (start-fits T J (atomCount T) e (s .0) (s .1) (fits-of T ws long)), s .2)
