@@ -1,16 +1,14 @@
 -- Refusal 9: the lowest lent buffer that is shorter than listed. 1 nodes, 2 operands, 3 roots, 4 producers, 5 ranks, 6 readers, 8 work area.
 -- Assumes nothing.
 use Prim.Native.Nat.{ℕ, _+_, _*_, _<_, _≤_}
-use mathlib.Core.Path.{_≡_, refl}
-use mathlib.Core.Bool.{Bool, true, false, cond}
+use mathlib.Core.Path.{_≡_}
+use mathlib.Core.Bool.{cond}
 use lib.Dec.{ltb}
 use borrow.Author.Tests.{ltb-false}
-use Rattle.theory.specs.Limits.{limitsOf, Limited}
-use Rattle.theory.specs.Refusals.{not-both}
+use Rattle.theory.specs.LimitsLaws.{passed}
 use Rattle.theory.specs.declared.Counts.{Counts}
 use Rattle.theory.specs.declared.Admission.{Admission}
 use Rattle.theory.specs.declared.Admission.the-variants.{Admitted, Refused}
-use Rattle.theory.specs.declared.Refusal.{Refusal}
 use Rattle.theory.specs.declared.Refusal.the-variants.{ShortBuffer}
 use Rattle.plan.specs.declared.Lengths.{Lengths}
 
@@ -42,10 +40,6 @@ pub record LongEnough (t : Counts) (l : Lengths) : Type 0 where
 
 -- ---- what an admission gives
 
-passed : (x : Bool) (r : Refusal) (rest : Admission) → cond x (Refused r) rest ≡ Admitted → (x ≡ false) × (rest ≡ Admitted)
-passed true r rest e = absurd (not-both r e)
-passed false r rest e = (refl, e)
-
 pub long-enough : (t : Counts) (l : Lengths) → shortBuffer t l ≡ Admitted → LongEnough t l
 unfolding shortBuffer
 long-enough t l e =
@@ -65,12 +59,3 @@ long-enough t l e =
       readers-long = ltb-false _ _ (g .0);
       work-long = ltb-false _ _ (h .0);
     }
-
-pub within-limits : (t : Counts) → limitsOf t ≡ Admitted → Limited t
-unfolding limitsOf
-within-limits t e =
-    let a = passed (ltb 65536 (t .atoms)) _ _ e in
-    let b = passed (ltb 262144 (t .nodes)) _ _ (a .1) in
-    let c = passed (ltb 1048576 (t .operands)) _ _ (b .1) in
-    let d = passed (ltb 262144 (t .roots)) _ _ (c .1) in
-    record { atoms = ltb-false _ _ (a .0); nodes = ltb-false _ _ (b .0); operands = ltb-false _ _ (c .0); roots = ltb-false _ _ (d .0) }

@@ -24,7 +24,8 @@ use Rattle.theory.specs.declared.Admission.the-variants as admitted
 use Rattle.compile.specs.ClassWord.{classWords}
 use Rattle.compile.specs.Producers.{rootsSupported}
 use Rattle.ranks.specs.RankCheck.{rankOrder, rankCheck}
-use Rattle.plan.specs.Buffers.{shortBuffer, LongEnough, long-enough, within-limits}
+use Rattle.theory.specs.LimitsLaws.{within-limits}
+use Rattle.plan.specs.Buffers.{shortBuffer, LongEnough, long-enough}
 use Rattle.plan.specs.Judged.{judged, derived, acyclic, planJudged, certifyJudged}
 use Rattle.plan.specs.Outcome.{Outcome, outcome, zeroed, planned, ranksOf, lengths, planOutcome, certifyOutcome}
 use Rattle.plan.specs.JudgedIn.{Zero}

@@ -36,7 +36,8 @@ use Rattle.readers.specs.AtomNodes.{atomNodesOf}
 use Rattle.readers.specs.ReaderTable.{listOf, slots, readerWords, built}
 use Rattle.readers.proofs.Few.{lists-room}
 use Rattle.readers.proofs.Readers.{lists-laid}
-use Rattle.plan.specs.Buffers.{shortBuffer, LongEnough, long-enough, within-limits}
+use Rattle.plan.specs.Buffers.{shortBuffer, LongEnough, long-enough}
+use Rattle.theory.specs.LimitsLaws.{within-limits}
 use Rattle.plan.specs.Judged.{classes, judged, derived, acyclic, planJudged, certifyJudged}
 use Rattle.plan.specs.Outcome.{Outcome, producersOf, planned, ranksOf, lengths, planOutcome, certifyOutcome}
 use Rattle.plan.specs.Written.{written-planned}

@@ -36,7 +36,7 @@ use Rattle.kept_laws.specs.Written.{get-candidate, of-written}
 use Rattle.start.specs.declared.Entered.{Entered}
 use Rattle.start.specs.declared.Entered.the-variants.{Low, Stray}
 use Rattle.start.specs.Enters.{Enters}
-use Rattle.start.specs.WordLaws.{wordAtoms}
+use Rattle.start.specs.WordLaws.{wordAtoms, turned-none, lowest-none}
 use Rattle.start.specs.Onward.{enters-low, enters-stray, Onward, onward-first, onward-room, onward-stray, onward-done, onward-more}
 
 -- tables of which nothing is known but the counts
@@ -163,19 +163,11 @@ module _ (T : Tables) (new : List ℕ) (ws : List ℕ) where
         }
 
     module _ (mid : List ℕ) (less i : ℕ) (s : Starting mid less i) where
-      turned-end : (d : Evaluation) → allTurned T J [] d ≡ some d
-      unfolding allTurned
-      turned-end d = refl
-
-      lowest-end : (n : ℕ) → leastNode T n [] ≡ n
-      unfolding leastNode
-      lowest-end n = refl
-
       pub starting-done : i ≡ words32 (atomCount T) → Enters T ws whole lowest (Low less) mid
       starting-done p =
           let end : later i ≡ [] = ap later p ∙ none-later in
           onward-done T ws whole lowest room mid (allTurned T J (later i) (ofWords T mid)) (leastNode T less (later i)) (s .onward) (Low less)
-          (ap (λ xs. allTurned T J xs (ofWords T mid)) end ∙ turned-end (ofWords T mid)) (ap Low (sym (lowest-end less) ∙ ap (leastNode T less) (sym end)))
+          (ap (λ xs. allTurned T J xs (ofWords T mid)) end ∙ turned-none T J (ofWords T mid)) (ap Low (sym (lowest-none T J less) ∙ ap (leastNode T less) (sym end)))
 
       module _ (l : i < words32 (atomCount T)) (x : ℕ) (q : x ≡ half new i) where
         middle : used T ≤ length mid

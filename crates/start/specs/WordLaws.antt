@@ -98,7 +98,7 @@ atoms-none : (i : ℕ) → wordAtoms i 0 ≡ []
 atoms-none i = ap (map (λ k. i * 32 + k)) (places-none (bit 0) 0 32 (λ k a b. bit-zero k))
 
 module _ (T : Tables) (J : Interpretation) where
-  turned-none : (e : Evaluation) → allTurned T J [] e ≡ some e
+  pub turned-none : (e : Evaluation) → allTurned T J [] e ≡ some e
   unfolding allTurned
   turned-none e = refl
 
@@ -106,7 +106,7 @@ module _ (T : Tables) (J : Interpretation) where
   unfolding allTurned
   turned-more a rest e = refl
 
-  lowest-none : (n : ℕ) → leastNode T n [] ≡ n
+  pub lowest-none : (n : ℕ) → leastNode T n [] ≡ n
   unfolding leastNode
   lowest-none n = refl
 

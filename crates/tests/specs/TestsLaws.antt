@@ -1,4 +1,4 @@
--- What each branch of the tests and of a kept check's condition gives, as code meets them.
+-- What each branch of the tests gives, as code meets it.
 -- Assumes nothing.
 use Prim.Native.Nat.{ℕ, max, _+_, _*_, _/_, _^_, _<_, _≤_}
 use native.Mathlib.Omega.{arith}
@@ -13,7 +13,7 @@ use Rattle.base.specs.Front.{front, front-more}
 use Rattle.formula.specs.Satisfaction.{Interpretation}
 use Rattle.theory.specs.Admission.{orElse}
 use Rattle.theory.specs.Limits.{limitsOf, Limited}
-use Rattle.theory.specs.Refusals.{not-both}
+use Rattle.theory.specs.LimitsLaws.{passed, within-limits}
 use Rattle.theory.specs.declared.Counts.{Counts}
 use Rattle.theory.specs.declared.Admission.{Admission}
 use Rattle.theory.specs.declared.Admission.the-variants.{Admitted, Refused}
@@ -32,19 +32,6 @@ use Rattle.tests.specs.Lent.{buffersBy, Sizes}
 use Rattle.tests.specs.declared.Lengths.{Lengths}
 
 -- ---- 3 and 9
-
-passed : (x : Bool) (r : Refusal) (rest : Admission) → cond x (Refused r) rest ≡ Admitted → (x ≡ false) × (rest ≡ Admitted)
-passed true r rest e = absurd (not-both r e)
-passed false r rest e = (refl, e)
-
-pub within-limits : (t : Counts) → limitsOf t ≡ Admitted → Limited t
-unfolding limitsOf
-within-limits t e =
-    let a = passed (ltb 65536 (t .atoms)) _ _ e in
-    let b = passed (ltb 262144 (t .nodes)) _ _ (a .1) in
-    let c = passed (ltb 1048576 (t .operands)) _ _ (b .1) in
-    let d = passed (ltb 262144 (t .roots)) _ _ (c .1) in
-    record { atoms = ltb-false _ _ (a .0); nodes = ltb-false _ _ (b .0); operands = ltb-false _ _ (c .0); roots = ltb-false _ _ (d .0) }
 
 module _ (b : Buffer) (bs : List Buffer) where
   pub short-here : b .lent < b .least → Refused (ShortBuffer (b .number)) ≡ firstShort (b ∷ bs)
@@ -130,40 +117,3 @@ module _ (t : Counts) (plan stamp : ℕ) (ws : List ℕ) (l : Lengths) (all : l 
         stray-left p r q T z =
             q T stamp ∙ ap (λ x. strayBit (sized x T) given) (sym (z .counts))
             ∙ sym (stamped true true (eq-eqb stamp (t .stamp) own) (eq-eqb plan (t .stamp) p) T z)
-
--- ---- a kept check, n atoms changed
-
-module _ (t : Counts) (ws : List ℕ) (n : ℕ) where
-  abbrev Holds : Bool → Type 0
-  Holds r = (T : Tables) (J : Interpretation) → n ≡ changes J (ofWords (sized t T) ws) → r ≡ isKept 64 8 (sized t T) J (ofWords (sized t T) ws)
-
-  kept-by : (x y : Bool) → eqb (getD ws 0 0) 1 ≡ x → eqb (getD ws 1 0) (t .stamp) ≡ y → Holds (x && y && leb n (max 64 (t .atoms / 8)))
-  unfolding isKept
-  kept-by x y p q T J e =
-      three (eqb (ofWords (sized t T) ws .state) 1) (eqb (ofWords (sized t T) ws .stamp) (t .stamp)) x y (changes J (ofWords (sized t T) ws))
-      (ap (λ k. eqb k 1) (sym (get-state (sized t T) ws)) ∙ p) (ap (λ k. eqb k (t .stamp)) (sym (get-stamp (sized t T) ws)) ∙ q) e
-    where
-      three : (a b x y : Bool) (m : ℕ) → a ≡ x → b ≡ y → n ≡ m → (x && y && leb n (max 64 (t .atoms / 8))) ≡ (a && b && leb m (max 64 (t .atoms / 8)))
-      three a b x y m u v w = rw (u, v, w)
-
-  pub none-held : (getD ws 0 0 ≡ 1 → ⊥) → Holds false
-  none-held h = kept-by false (eqb (getD ws 1 0) (t .stamp)) (ne-eqb (getD ws 0 0) 1 h) refl
-
-  module _ (held : getD ws 0 0 ≡ 1) where
-    pub other-held : (getD ws 1 0 ≡ t .stamp → ⊥) → Holds false
-    other-held h = kept-by true false (eq-eqb (getD ws 0 0) 1 held) (ne-eqb (getD ws 1 0) (t .stamp) h)
-
-    pub few-changed : (m : ℕ) → getD ws 1 0 ≡ t .stamp → m ≡ max 64 (t .atoms / 8) → Holds (leb n m)
-    few-changed m s q T J e = rw q (kept-by true true (eq-eqb (getD ws 0 0) 1 held) (eq-eqb (getD ws 1 0) (t .stamp) s) T J e)
-
--- ---- clearing
-
-module _ (ws xs : List ℕ) (i : ℕ) (e : xs ≡ front (replicate i 0) ws) where
-  pub zeros-more : i < length ws → set xs i 0 ≡ front (replicate (i + 1) 0) ws
-  zeros-more h =
-      ap (λ l. set l i 0) e ∙ front-more (replicate i 0) ws 0 i (sym (length-replicate {A = ℕ} i 0)) h
-      ∙ ap (λ l. front l ws) (replicate-append-replicate {A = ℕ} i 1 0)
-
-  pub zeros-up-to : (n : ℕ) → i ≤ n → n ≤ i → xs ≡ replicate n 0 ++ drop n ws
-  unfolding front
-  zeros-up-to n a b = let q : i ≡ n = omega arith in e ∙ rw (q, length-replicate {A = ℕ} n 0)

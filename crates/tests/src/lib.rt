@@ -1,16 +1,12 @@
-// The tests of a check before 17: 3 by counts, 9, 15, 16; whether it is a kept one; and the clearing of its words.
+// The tests of a check before 17: 3 by counts, 9, 15, 16.
 ghost use mathlib.Core.Path.{_≡_};
-ghost use mathlib.Core.List.{_++_};
 ghost use Prim.Native.Nat.{ℕ, _≤_};
-ghost use lib.ListN.{length, drop, replicate};
-ghost use Rattle.formula.specs.Satisfaction.{Interpretation};
+ghost use lib.ListN.{length};
 ghost use Rattle.theory.specs.Limits.{Limited};
-ghost use Rattle.kept.specs.Check.{changes, isKept};
-ghost use Rattle.kept.specs.Layout.{ofWords};
 ghost use Rattle.kept.specs.SetOf.{words64};
 ghost use Rattle.kept.specs.Tables.{Tables};
 ghost use Rattle.kept.specs.Tests.{firstShort, strayBit, tests};
-ghost use Rattle.kept_laws.specs.Given.{usedBy, sized};
+ghost use Rattle.kept_laws.specs.Given.{sized};
 ghost use Rattle.tests.specs.Lent.{buffersBy, Sizes};
 use theory::Admission;
 use theory::Counts;
@@ -87,30 +83,4 @@ pub fn tests(counts: Counts, plan: u32, stamp: u32, candidate: &[u64], l: Length
         return Admission::Refused(Refusal::ForeignStamp);
     }
     stray_bit(counts, candidate)
-}
-
-// Whether the words hold a check of this stamp and so few atoms changed.
-pub fn is_kept(counts: Counts, changed: usize, kept: &[u32]) -> bool
-    requires { ⌜ usedBy counts ≤ length (now kept) ⌝ }
-    ensures { λ r. ⌜ ((T : Tables) (J : Interpretation) → changed ≡ changes J (ofWords (sized counts T) (now (kept .entry))) → r ≡ isKept 64 8 (sized counts T) J (ofWords (sized counts T) (now (kept .entry)))) ⌝ }
-{
-    if kept[0] != 1 {
-        return false;
-    }
-    if kept[1] != counts.stamp {
-        return false;
-    }
-    changed <= words::greater(64, counts.atoms / 8)
-}
-
-// The first n words zero.
-pub fn clear(kept: &mut [u32], n: usize)
-    requires { ⌜ n ≤ length (now kept) ⌝ }
-    ensures { λ _. ⌜ now (kept .exit) ≡ replicate n 0 ++ drop n (now (kept .entry)) ⌝ }
-{
-    let mut i = 0;
-    while i < n {
-        kept[i] = 0;
-        i += 1;
-    }
 }

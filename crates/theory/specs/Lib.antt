@@ -10,3 +10,4 @@ pub mod NodeTruth
 pub mod NodeClass
 pub mod NodeRank
 pub mod Formed
+pub mod LimitsLaws

@@ -1,6 +1,7 @@
 use native.Mathlib.Omega.{arith}
 use mathlib.Core.Path.{_≡_, sym, _∙_}
-use Rattle.plan.specs.Buffers.{within-limits, long-enough}
+use Rattle.plan.specs.Buffers.{long-enough}
+use Rattle.theory.specs.LimitsLaws.{within-limits}
 use borrow.Author.Needs.{needs}
 use Rattle.plan.proofs.enter.Statement.{statement}
 use Rattle.plan.proofs.enter.Tie as tie

@@ -1,5 +1,6 @@
 use mathlib.Core.Path.{sym, _∙_}
-use Rattle.tests.specs.TestsLaws.{within-limits, limit-refused, short-refused, candidate-long, candidate-foreign, plan-foreign, stray-left}
+use Rattle.theory.specs.LimitsLaws.{within-limits}
+use Rattle.tests.specs.TestsLaws.{limit-refused, short-refused, candidate-long, candidate-foreign, plan-foreign, stray-left}
 use borrow.Author.Needs.{needs}
 use Rattle.tests.proofs.tests.Statement.{statement}
 use Rattle.tests.proofs.tests.Tie as tie
