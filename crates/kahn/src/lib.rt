@@ -2,7 +2,7 @@
 ghost use mathlib.Core.Path.{_≡_};
 ghost use mathlib.Core.Bool.{not};
 ghost use mathlib.Core.List.{List};
-ghost use Prim.Native.Nat.{ℕ, _+_, _*_, _<_, _≤_, max};
+ghost use Prim.Native.Nat.{ℕ, _+_, _*_, _<_, _≤_};
 ghost use lib.Dec.{eqb, ltb};
 ghost use lib.ListN.{length, getD};
 ghost use Rattle.base.specs.Places.{lowest};
@@ -66,12 +66,6 @@ fn cost(atoms: usize, target: usize) -> usize
     if target < atoms { 1 } else { 0 }
 }
 
-fn highest(a: usize, b: usize) -> usize
-    ensures { λ r. ⌜ r ≡ max a b ⌝ }
-{
-    if a < b { b } else { a }
-}
-
 // Goes over one edge: its target's rank and degree, and the queue.
 fn relax(area: &mut [u32], atoms: usize, n: usize, q: usize, source: usize, target: usize) -> usize
     requires { ⌜ (n ≤ 327680) × (4 * n ≤ length (now area)) × (q < n) × (source < n) × (target < n) ⌝ }
@@ -82,7 +76,7 @@ fn relax(area: &mut [u32], atoms: usize, n: usize, q: usize, source: usize, targ
     let degree = words::word(area, n + target);
     let before = words::word(area, 2 * n + target);
     let above = words::word(area, 2 * n + source) + cost(atoms, target);
-    let rank = highest(before, above);
+    let rank = words::greater(before, above);
     area[n + target] = (degree - 1) as u32;
     area[2 * n + target] = rank as u32;
     push(area, n, q, target)

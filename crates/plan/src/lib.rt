@@ -113,17 +113,6 @@ fn copy(buffer: &mut [u32], source: &[u32], n: usize)
     }
 }
 
-// The whole area zero.
-fn clear(work: &mut [u32])
-    ensures { λ _. ⌜ now (work .exit) ≡ replicate (length (now (work .entry))) 0 ⌝ }
-{
-    let mut i = 0;
-    while i < work.len() {
-        work[i] = 0;
-        i += 1;
-    }
-}
-
 // Refusals 10 and 11, then 12, in a zeroed area; if there is none, the class words stand at its front and the ranks 2 v words behind them.
 fn judge_derived(
     counts: Counts,
@@ -223,7 +212,7 @@ fn plan_entered(
 {
     let judged = judge_derived(counts, nodes, operands, roots, &mut work[16..]);
     if let Admission::Refused(r) = judged {
-        clear(work);
+        words::clear(work);
         return Planning::Refused(r);
     }
     let end = 16 + counts.nodes;
@@ -239,7 +228,7 @@ fn plan_entered(
         ranks,
         readers,
     );
-    clear(work);
+    words::clear(work);
     Planning::Planned(p)
 }
 
@@ -260,7 +249,7 @@ fn certify_entered(
 {
     let judged = judge_proposed(counts, nodes, operands, roots, proposed, &mut work[16..]);
     if let Admission::Refused(r) = judged {
-        clear(work);
+        words::clear(work);
         return Planning::Refused(r);
     }
     let end = 16 + counts.nodes;
@@ -275,7 +264,7 @@ fn certify_entered(
         ranks,
         readers,
     );
-    clear(work);
+    words::clear(work);
     Planning::Planned(p)
 }
 
@@ -292,7 +281,7 @@ pub fn plan(
 ) -> Planning
     ensures { λ r. ⌜ outcome r (now (producers .exit)) (now (ranks .exit)) (now (readers .exit)) (now (work .exit)) ≡ planOutcome counts (now (nodes .entry)) (now (operands .entry)) (now (roots .entry)) (now (producers .entry)) (now (ranks .entry)) (now (readers .entry)) (now (work .entry)) ⌝ }
 {
-    clear(work);
+    words::clear(work);
     let l = Lengths {
         nodes: nodes.len(),
         operands: operands.len(),
@@ -331,7 +320,7 @@ pub fn certify(
 ) -> Planning
     ensures { λ r. ⌜ outcome r (now (producers .exit)) (now (ranks .exit)) (now (readers .exit)) (now (work .exit)) ≡ certifyOutcome counts (now (nodes .entry)) (now (operands .entry)) (now (roots .entry)) (now (proposed .entry)) (now (producers .entry)) (now (ranks .entry)) (now (readers .entry)) (now (work .entry)) ⌝ }
 {
-    clear(work);
+    words::clear(work);
     let l = Lengths {
         nodes: nodes.len(),
         operands: operands.len(),

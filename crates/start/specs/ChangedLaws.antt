@@ -20,10 +20,6 @@ use Rattle.kept.specs.Check.{changes}
 use Rattle.kept_laws.specs.Written.{get-candidate}
 use Rattle.kept_laws.specs.Halves.{half, difference, word-places, changes-next}
 
-pub half-read : (ws : List ℕ) (i : ℕ) → getD ws (i / 2) 0 / 2 ^ (i % 2 * 32) % 4294967296 ≡ half ws i
-unfolding half
-half-read ws i = refl
-
 -- the changes of the first i words that begin at a place
 unfoldable pub wordChanges : ℕ → List ℕ → List ℕ → ℕ → ℕ
 wordChanges at kept new zero = 0

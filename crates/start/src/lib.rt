@@ -19,7 +19,6 @@ ghost use Rattle.kept.specs.Layout.{ofWords};
 ghost use Rattle.kept.specs.Start.{allEntered, atomTurned, walkStart, least, orNone, leastNode, lowestEntered};
 ghost use Rattle.kept.specs.Check.{changes};
 ghost use Rattle.kept_laws.specs.Given.{candidateAt, usedBy, sized, listed};
-ghost use Rattle.kept_laws.specs.Halves.{half};
 ghost use Rattle.kept_laws.specs.StartChanged.{allTurned};
 ghost use Rattle.start.specs.Enters.{Enters};
 use theory::Counts;
@@ -113,14 +112,6 @@ fn turn_word(
     Entered::Low(lowest)
 }
 
-// Word i of a candidate in words of 32 bits.
-pub fn half_word(candidate: &[u64], i: usize) -> u32
-    requires { ⌜ i < 2 * length (now candidate) ⌝ }
-    ensures { λ r. ⌜ r ≡ half (now (candidate .entry)) i ⌝ }
-{
-    ((candidate[i / 2] >> (i % 2 * 32)) % 0x1_0000_0000) as u32
-}
-
 // The new candidate, and the atom nodes of changed atoms on the worklist; `candidate` is its listed words.
 pub fn start(counts: Counts, candidate: &[u64], readers: &[u64], kept: &mut [u32]) -> Entered
     requires { ⌜ Limited counts × (length (now candidate) ≡ words64 (counts .atoms)) × (readerWords counts ≤ length (now readers)) × (usedBy counts ≤ length (now kept)) ⌝ }
@@ -131,7 +122,7 @@ pub fn start(counts: Counts, candidate: &[u64], readers: &[u64], kept: &mut [u32
     let mut lowest = counts.nodes;
     let mut i = 0;
     while i < words {
-        match turn_word(counts, readers, kept, i, half_word(candidate, i), lowest) {
+        match turn_word(counts, readers, kept, i, retained::half_word(candidate, i), lowest) {
             Entered::Low(m) => {
                 lowest = m;
             }
@@ -155,7 +146,7 @@ pub fn changed(counts: Counts, candidate: &[u64], kept: &[u32]) -> usize
     let mut sum = 0;
     let mut i = 0;
     while i < words {
-        sum = sum + words::set32::changed(kept[at + i], half_word(candidate, i)) as usize;
+        sum = sum + words::set32::changed(kept[at + i], retained::half_word(candidate, i)) as usize;
         i += 1;
     }
     sum

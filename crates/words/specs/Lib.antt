@@ -5,3 +5,4 @@ pub mod Next
 pub mod BitLaws
 pub mod SetLaws
 pub mod NextLaws
+pub mod Zeros

@@ -1,7 +1,7 @@
 // Words lent in slices: read as numbers, and as sets of bits.
 ghost use mathlib.Core.Path.{_≡_};
 ghost use Prim.Native.Nat.{_<_, max};
-ghost use lib.ListN.{length, getD};
+ghost use lib.ListN.{length, getD, replicate};
 ghost use Rattle.base.specs.Places.{places};
 ghost use Rattle.words.specs.Bit.{bit};
 
@@ -24,6 +24,17 @@ pub fn word64(table: &[u64], i: usize) -> usize
 {
     let x = table[i];
     x as usize
+}
+
+// All words become 0.
+pub fn clear(table: &mut [u32])
+    ensures { λ _. ⌜ now (table .exit) ≡ replicate (length (now (table .entry))) 0 ⌝ }
+{
+    let mut i = 0;
+    while i < table.len() {
+        table[i] = 0;
+        i += 1;
+    }
 }
 
 // The greater of two numbers.

@@ -35,8 +35,8 @@ cost-requires c κs = search needs
 add-above : tie.Need-add-above
 add-above c = search needs
 
-highest-requires : tie.Need-highest-requires
-highest-requires c κs = search needs
+greater-requires : tie.Need-greater-requires
+greater-requires c κs = search needs
 
 sub-area : tie.Need-sub-area
 sub-area c = search needs
@@ -75,7 +75,7 @@ same-length : tie.Need-same-length
 same-length c = simp length-set at (c .before .before .push .kept .0)
 
 returns : tie.Need-returns
-returns c = relaxed _ _ _ _ _ _ (search needs) (search needs) (search needs) (search needs) _ _ _ _ _ _ _ (c .before .before .before .before .before .before .before .before .before .before .word .ensures .0) (c .before .before .before .before .before .before .before .before .word2 .ensures .0) (c .before .before .before .before .before .before .word3 .ensures .0) (c .before .before .before .before .before .cost .ensures .0) (c .before .before .before .before .highest .ensures) (c .before .before .push .ensures)
+returns c = relaxed _ _ _ _ _ _ (search needs) (search needs) (search needs) (search needs) _ _ _ _ _ _ _ (c .before .before .before .before .before .before .before .before .before .before .word .ensures .0) (c .before .before .before .before .before .before .before .before .word2 .ensures .0) (c .before .before .before .before .before .before .word3 .ensures .0) (c .before .before .before .before .before .cost .ensures .0) (c .before .before .before .before .greater .ensures) (c .before .before .push .ensures)
 
 pub relax-spec : {M : Type 1} → statement M
 relax-spec =
@@ -91,7 +91,7 @@ relax-spec =
     word-requires-3
     cost-requires
     add-above
-    highest-requires
+    greater-requires
     sub-area
     cast-area
     add-area

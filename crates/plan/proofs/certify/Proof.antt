@@ -8,7 +8,7 @@ use Rattle.plan.proofs.certify.Tie as tie
 use Rattle.plan.proofs.certify.Reads as reads
 use Rattle.plan.proofs.certify.Lts as lts
 use Rattle.plan.proofs.certify_entered.Reads as certify-entered-reads
-use Rattle.plan.proofs.clear.Reads as clear-reads
+use Rattle.words.proofs.clear.Reads as clear-reads
 use Rattle.plan.proofs.enter.Reads as enter-reads
 
 -- src/lib.rt:334:5

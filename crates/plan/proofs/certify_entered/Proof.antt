@@ -10,7 +10,7 @@ use Rattle.plan.proofs.certify_entered.Statement.{statement}
 use Rattle.plan.proofs.certify_entered.Tie as tie
 use Rattle.plan.proofs.certify_entered.Reads as reads
 use Rattle.plan.proofs.certify_entered.Lts as lts
-use Rattle.plan.proofs.clear.Reads as clear-reads
+use Rattle.words.proofs.clear.Reads as clear-reads
 use Rattle.plan.proofs.finish.Reads as finish-reads
 use Rattle.plan.proofs.judge_proposed.Reads as judge-proposed-reads
 

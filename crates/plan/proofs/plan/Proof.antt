@@ -7,7 +7,7 @@ use Rattle.plan.proofs.plan.Statement.{statement}
 use Rattle.plan.proofs.plan.Tie as tie
 use Rattle.plan.proofs.plan.Reads as reads
 use Rattle.plan.proofs.plan.Lts as lts
-use Rattle.plan.proofs.clear.Reads as clear-reads
+use Rattle.words.proofs.clear.Reads as clear-reads
 use Rattle.plan.proofs.enter.Reads as enter-reads
 use Rattle.plan.proofs.plan_entered.Reads as plan-entered-reads
 

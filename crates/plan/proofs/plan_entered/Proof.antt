@@ -9,7 +9,7 @@ use Rattle.plan.proofs.plan_entered.Statement.{statement}
 use Rattle.plan.proofs.plan_entered.Tie as tie
 use Rattle.plan.proofs.plan_entered.Reads as reads
 use Rattle.plan.proofs.plan_entered.Lts as lts
-use Rattle.plan.proofs.clear.Reads as clear-reads
+use Rattle.words.proofs.clear.Reads as clear-reads
 use Rattle.plan.proofs.finish.Reads as finish-reads
 use Rattle.plan.proofs.judge_derived.Reads as judge-derived-reads
 

@@ -8,7 +8,7 @@ use Rattle.start.proofs.changed.Statement.{statement}
 use Rattle.start.proofs.changed.Tie as tie
 use Rattle.start.proofs.changed.Reads as reads
 use Rattle.start.proofs.changed.Lts as lts
-use Rattle.start.proofs.half_word.Reads as half-word-reads
+use Rattle.retained.proofs.half_word.Reads as half-word-reads
 use Rattle.words.proofs.set32.changed.Reads as changed-reads
 
 abbrev Inv-loop : tie.InvT-loop

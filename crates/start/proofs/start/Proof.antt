@@ -11,7 +11,7 @@ use Rattle.start.proofs.start.Statement.{statement}
 use Rattle.start.proofs.start.Tie as tie
 use Rattle.start.proofs.start.Reads as reads
 use Rattle.start.proofs.start.Lts as lts
-use Rattle.start.proofs.half_word.Reads as half-word-reads
+use Rattle.retained.proofs.half_word.Reads as half-word-reads
 use Rattle.start.proofs.turn_word.Reads as turn-word-reads
 
 abbrev Inv-loop : tie.InvT-loop

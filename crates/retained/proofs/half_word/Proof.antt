@@ -1,9 +1,9 @@
-use Rattle.start.specs.ChangedLaws.{half-read}
+use Rattle.retained.specs.MemberLaws.{half-read}
 use borrow.Author.Needs.{needs}
-use Rattle.start.proofs.half_word.Statement.{statement}
-use Rattle.start.proofs.half_word.Tie as tie
-use Rattle.start.proofs.half_word.Reads as reads
-use Rattle.start.proofs.half_word.Lts as lts
+use Rattle.retained.proofs.half_word.Statement.{statement}
+use Rattle.retained.proofs.half_word.Tie as tie
+use Rattle.retained.proofs.half_word.Reads as reads
+use Rattle.retained.proofs.half_word.Lts as lts
 
 -- src/lib.rt:107:7
 mul-result : tie.Need-mul-result

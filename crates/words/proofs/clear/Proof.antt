@@ -4,29 +4,29 @@ use mathlib.Core.Path.{_≡_, _∙_}
 use Prim.Native.Nat.{_-_, _≤_}
 use lib.ListN.{length, replicate, length-set}
 use Rattle.base.specs.Front.{front, front-none}
-use Rattle.plan.specs.Filled.{zeros-more, zeros-all}
-use Rattle.plan.proofs.clear.Statement.{statement}
-use Rattle.plan.proofs.clear.Tie as tie
-use Rattle.plan.proofs.clear.Reads as reads
-use Rattle.plan.proofs.clear.Lts as lts
+use Rattle.words.specs.Zeros.{zeros-more, zeros-all}
+use Rattle.words.proofs.clear.Statement.{statement}
+use Rattle.words.proofs.clear.Tie as tie
+use Rattle.words.proofs.clear.Reads as reads
+use Rattle.words.proofs.clear.Lts as lts
 
 abbrev Inv-loop : tie.InvT-loop
-Inv-loop work₀ i₀ work i = (i ≤ length work₀) × (length work ≡ length work₀) × (work ≡ front (replicate i 0) work₀)
+Inv-loop table₀ i₀ table i = (i ≤ length table₀) × (length table ≡ length table₀) × (table ≡ front (replicate i 0) table₀)
 
 abbrev μ-loop : tie.MeasureT-loop
-μ-loop work₀ i₀ work i = length work₀ - i
+μ-loop table₀ i₀ table i = length table₀ - i
 
 -- src/lib.rt:114:5
 loop-holds : tie.Need-loop-holds Inv-loop μ-loop
 loop-holds c = (search needs, search needs, front-none _)
 
 -- src/lib.rt:115:9
-mul-work : tie.Need-mul-work Inv-loop μ-loop
-mul-work c = search needs
+mul-table : tie.Need-mul-table Inv-loop μ-loop
+mul-table c = search needs
 
 -- src/lib.rt:115:9
-slice-write-work : tie.Need-slice-write-work Inv-loop μ-loop
-slice-write-work c = search needs
+slice-write-table : tie.Need-slice-write-table Inv-loop μ-loop
+slice-write-table c = search needs
 
 -- src/lib.rt:116:9
 add-i : tie.Need-add-i Inv-loop μ-loop
@@ -55,8 +55,8 @@ clear-spec =
     Inv-loop
     μ-loop
     loop-holds
-    mul-work
-    slice-write-work
+    mul-table
+    slice-write-table
     add-i
     loop-less
     loop-again
