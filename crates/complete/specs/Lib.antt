@@ -1,0 +1,13 @@
+pub mod Laid
+pub mod Phases
+pub mod Fills
+pub mod Sections
+pub mod ResetLaws
+pub mod Runs
+pub mod TruthLaws
+pub mod SupportLaws
+pub mod SetLaws
+pub mod FreshLaws
+pub mod Branches
+pub mod Loops
+pub mod Sequel

@@ -1,0 +1,122 @@
+-- A check from the parts that calls answer and leave.
+-- Assumes nothing.
+use Prim.Native.Nat.{ℕ, _<_, _≤_, _+_, _-_, _/_, max}
+use native.Mathlib.Omega.{arith}
+use mathlib.Core.Path.{_≡_, refl, ap, ap₂, sym, _∙_}
+use mathlib.Core.Bool.{Bool, true, false, cond, _&&_}
+use mathlib.Core.List.{List, _++_}
+use mathlib.Core.Option.{some}
+use lib.Dec.{eqb, ltb, leb}
+use lib.ListN.{length, getD, drop, replicate}
+use lib.Seq.{drop-drop}
+use borrow.Author.Tests.{eq-eqb, ne-eqb, lt-ltb, le-ltb}
+use Rattle.formula.specs.Satisfaction.{Interpretation}
+use Rattle.theory.specs.declared.Admission.{Admission}
+use Rattle.theory.specs.declared.Admission.the-variants.{Admitted, Refused}
+use Rattle.theory.specs.declared.Refusal.{Refusal}
+use Rattle.theory.specs.declared.Refusal.the-variants.{BadEntry}
+use Rattle.words.specs.Sets.{member}
+use Rattle.kept.specs.Tables.{Tables, atomCount, nodeCount, rootCount}
+use Rattle.kept.specs.Evaluation as evaluation
+use Rattle.kept.specs.Evaluation.{Evaluation}
+use Rattle.kept.specs.Verdict.{verdict, verdictOf}
+use Rattle.kept.specs.VerdictLaws.{verdict-fresh}
+use Rattle.kept.specs.Walk.{keptWalk}
+use Rattle.kept.specs.Check as check
+use Rattle.kept.specs.Check.{Result, tablesAdmission, freshResult, keptResult, changes, isKept, result}
+use Rattle.kept.specs.Layout.{ofWords, written, used, listed}
+use Rattle.kept.specs.LayoutLaws.{room, fits-fresh}
+use Rattle.kept.specs.Candidate.{Candidate, listedWords, atomsOf}
+use Rattle.kept.specs.Tests.{tests}
+use Rattle.kept.specs.Outcome as outcomes
+use Rattle.kept.specs.Outcome.{Outcome, cleared, outcomeAt, outcome}
+use Rattle.kept_laws.specs.Written.{of-written}
+use Rattle.kept_laws.specs.Wrote.{Beside, beside-same}
+use Rattle.complete.specs.Laid.{Laid}
+use Rattle.update.specs.declared.Checked as checks
+use Rattle.update.specs.declared.Checked.the-variants as cases
+use Rattle.update.specs.Results.{answerOf, answerIn, Results}
+use Rattle.update.specs.ResultsLaws.{refused-results, concluded-results, results-by}
+use Rattle.evaluate.specs.Checks.{outcomeOf, settled}
+
+-- the atoms of a candidate by its listed words
+pub atoms-of : (T : Tables) (c : Candidate) → atomsOf T c ≡ member 64 (listedWords T c)
+unfolding atomsOf
+atoms-of T c = refl
+
+-- ---- whether it is kept
+
+module _ (T : Tables) (J : Interpretation) (ws : List ℕ) where
+  abbrev e : Evaluation
+  e = ofWords T ws
+
+  pub not-held : (getD ws 0 0 ≡ 1 → ⊥) → false ≡ isKept 64 8 T J e
+  unfolding isKept ofWords
+  not-held h = sym (rw (ne-eqb (getD ws 0 0) 1 h))
+
+  pub not-mine : getD ws 0 0 ≡ 1 → (getD ws 1 0 ≡ T .counts .stamp → ⊥) → false ≡ isKept 64 8 T J e
+  unfolding isKept ofWords
+  not-mine p h = sym (rw (eq-eqb (getD ws 0 0) 1 p, ne-eqb (getD ws 1 0) (T .counts .stamp) h))
+
+  pub kept-by : (n m : ℕ) → getD ws 0 0 ≡ 1 → getD ws 1 0 ≡ T .counts .stamp → n ≡ changes J e → m ≡ max 64 (atomCount T / 8) → leb n m ≡ isKept 64 8 T J e
+  unfolding isKept ofWords
+  kept-by n m p s q r = sym (rw (eq-eqb (getD ws 0 0) 1 p, eq-eqb (getD ws 1 0) (T .counts .stamp) s, q, r))
+
+  -- ---- fresh
+
+  module _ (long : used T ≤ length ws) (r : Admission) (mid : List ℕ) (laid : Laid T ws (tablesAdmission T J) (evaluation.fresh T J) r mid) where
+    pub fresh-refused : (x : Refusal) → r ≡ Refused x → Results T ws (freshResult T J (tablesAdmission T J)) (cases.Refused x) mid
+    unfolding freshResult
+    fresh-refused x p = refused-results T ws (freshResult T J (tablesAdmission T J)) x mid (rw (sym (laid .0) ∙ p)) (laid .2)
+
+    pub fresh-done : r ≡ Admitted → (c : checks.Checked) → ((d : Evaluation) → answerOf c ≡ answerIn (check.concluded (verdictOf T (ofWords T mid)) (nodeCount T) d))
+        → Results T ws (freshResult T J (tablesAdmission T J)) c mid
+    unfolding freshResult
+    fresh-done p c a =
+        let put : mid ≡ written T ws (evaluation.fresh T J) = laid .1 (sym (laid .0) ∙ p) in
+        let holds : ofWords T mid ≡ evaluation.fresh T J = ap (ofWords T) put ∙ of-written T ws long (evaluation.fresh T J) (fits-fresh T J) in
+        concluded-results T ws (freshResult T J (tablesAdmission T J)) (verdictOf T (evaluation.fresh T J)) (nodeCount T) (evaluation.fresh T J) c mid long (fits-fresh T J)
+        (rw (sym (laid .0) ∙ p, verdict-fresh T J))
+        (a (evaluation.fresh T J) ∙ ap (λ y. answerIn (check.concluded (verdictOf T y) (nodeCount T) (evaluation.fresh T J))) holds)
+        put
+
+  -- ---- one of the two
+
+  pub result-many : rootCount T < T .made → Results T ws (result 64 8 T J e) (cases.Refused (BadEntry 0)) ws
+  unfolding result
+  result-many l = refused-results T ws (result 64 8 T J e) (BadEntry 0) ws (rw (lt-ltb (rootCount T) (T .made) l)) (beside-same T ws)
+
+  module _ (few : T .made ≤ rootCount T) (c : checks.Checked) (after : List ℕ) where
+    pub result-kept : isKept 64 8 T J e ≡ true → Results T ws (keptResult T (keptWalk T J e)) c after → Results T ws (result 64 8 T J e) c after
+    unfolding result
+    result-kept k h = results-by T ws (result 64 8 T J e) (keptResult T (keptWalk T J e)) c after (rw (le-ltb (rootCount T) (T .made) few, k)) h
+
+    pub result-fresh : isKept 64 8 T J e ≡ false → Results T ws (freshResult T J (tablesAdmission T J)) c after → Results T ws (result 64 8 T J e) c after
+    unfolding result
+    result-fresh k h = results-by T ws (result 64 8 T J e) (freshResult T J (tablesAdmission T J)) c after (rw (le-ltb (rootCount T) (T .made) few, k)) h
+
+-- ---- the outcome
+
+module _ (T : Tables) (c : Candidate) (ws : List ℕ) where
+  pub outcome-refused : (r : Refusal) → Refused r ≡ tests T c (length ws) → outcomeOf (cases.Refused r) ws ≡ outcome 64 8 T c ws
+  unfolding outcome outcomeAt
+  outcome-refused r e = rw (sym e)
+
+  same-past : (mid : List ℕ) → Beside T ws mid → replicate (listed T) 0 ++ drop (listed T) mid ≡ cleared T ws
+  unfolding cleared
+  same-past mid b =
+      let split : listed T ≡ used T + (listed T - used T) = omega (arith, room T) in
+      ap (λ l. replicate (listed T) 0 ++ l)
+      (ap (λ n. drop n mid) split ∙ sym (drop-drop (listed T - used T) (used T) mid) ∙ ap (drop (listed T - used T)) (b .behind)
+      ∙ drop-drop (listed T - used T) (used T) ws ∙ ap (λ n. drop n ws) (sym split))
+
+  pub outcome-checked : Admitted ≡ tests T c (length ws) → (r : checks.Checked) (mid : List ℕ) → Results T ws (result 64 8 T (atomsOf T c) (ofWords T ws)) r mid
+      → outcomeOf r (settled (listed T) r mid) ≡ outcome 64 8 T c ws
+  unfolding outcome outcomeAt settled
+  outcome-checked e r mid h = rw (sym e) (go r (result 64 8 T (atomsOf T c) (ofWords T ws)) h)
+    where
+      go : (r : checks.Checked) (x : Result) → Results T ws x r mid → outcomeOf r (settled (listed T) r mid) ≡ outcomes.concluded T ws x
+      go (cases.Accepted v n) (check.accepted w m d) h = ap₂ (λ a l. record { answer = a; words = l }) (h .0) (h .1)
+      go (cases.Accepted v n) (check.refused s) h = let p = h .0 in let z : _≡_ {A = ℕ} 0 1 = cc in absurd (omega arith)
+      go (cases.Refused s) (check.accepted w m d) h = let p = h .0 in let z : _≡_ {A = ℕ} 0 1 = cc in absurd (omega arith)
+      go (cases.Refused s) (check.refused t) h = ap₂ (λ a l. record { answer = a; words = l }) (h .0) (same-past mid (h .1))

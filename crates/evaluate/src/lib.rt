@@ -1,0 +1,151 @@
+// The public check of a candidate (`check` and `evaluate` of tight/evaluate.rs): kept where a check of this stamp is held and few atoms changed, else fresh.
+ghost use mathlib.Core.Path.{_≡_};
+ghost use Prim.Native.Nat.{_+_, _*_, _/_, _<_, _≤_, max};
+ghost use lib.ListN.{length};
+ghost use Rattle.formula.specs.Passes.{Within};
+ghost use Rattle.words.specs.Sets.{member};
+ghost use Rattle.readers.specs.ReaderTable.{readerWords};
+ghost use Rattle.theory.specs.Limits.{Limited};
+ghost use Rattle.kept.specs.SetOf.{words64};
+ghost use Rattle.kept.specs.Tables.{Tables};
+ghost use Rattle.kept.specs.Layout.{ofWords};
+ghost use Rattle.kept.specs.Check.{freshResult, tablesAdmission, isKept, result};
+ghost use Rattle.kept.specs.Outcome.{outcome};
+ghost use Rattle.kept_laws.specs.Given.{usedBy, sized, planned};
+ghost use Rattle.update.specs.Results.{lent, answerOf, Results};
+ghost use Rattle.evaluate.specs.Checks.{Lent, tablesOf, candidateOf, outcomeOf, settled};
+use tests::Lengths;
+use theory::Admission;
+use theory::Counts;
+use theory::Refusal;
+use update::Checked;
+
+// A plan's stamp and how many producers it has.
+pub struct Plan {
+    pub stamp: u32,
+    pub producers: usize,
+}
+
+// Whether a check of this stamp is held and at most max(64, atoms / 8) atoms changed.
+fn is_kept(counts: Counts, candidate: &[u64], kept: &[u32]) -> bool
+    requires { ⌜ Limited counts × (length (now candidate) ≡ words64 (counts .atoms)) × (usedBy counts ≤ length (now kept)) ⌝ }
+    ensures { λ r. ⌜ ((T : Tables) → r ≡ isKept 64 8 (sized counts T) (member 64 (now (candidate .entry))) (ofWords (sized counts T) (now (kept .entry)))) ⌝ }
+{
+    if kept[0] != 1 {
+        return false;
+    }
+    if kept[1] != counts.stamp {
+        return false;
+    }
+    start::changed(counts, candidate, kept) <= words::greater(64, counts.atoms / 8)
+}
+
+// A fresh check: the evaluation laid anew, then the verdict.
+fn fresh(
+    counts: Counts,
+    made: usize,
+    candidate: &[u64],
+    nodes: &[u32],
+    operands: &[u32],
+    roots: &[u32],
+    producers: &[u32],
+    kept: &mut [u32],
+) -> Checked
+    requires { ⌜ Lent counts (length (now candidate)) (length (now nodes)) (length (now operands)) (length (now roots)) (length (now producers)) (length (now kept)) × (made ≤ counts .roots) × Within (counts .atoms) (member 64 (now candidate)) ⌝ }
+    ensures { λ r. ⌜ ((T : Tables) → Results (planned counts made (now (nodes .entry)) (now (operands .entry)) (now (roots .entry)) (now (producers .entry)) T) (now (kept .entry)) (freshResult (planned counts made (now (nodes .entry)) (now (operands .entry)) (now (roots .entry)) (now (producers .entry)) T) (member 64 (now (candidate .entry))) (tablesAdmission (planned counts made (now (nodes .entry)) (now (operands .entry)) (now (roots .entry)) (now (producers .entry)) T) (member 64 (now (candidate .entry))))) r (now (kept .exit))) ⌝ }
+{
+    match complete::complete(
+        counts, made, candidate, nodes, operands, roots, producers, kept,
+    ) {
+        Admission::Refused(r) => Checked::Refused(r),
+        Admission::Admitted => update::told(verdict::judge(counts, roots, kept), counts.nodes),
+    }
+}
+
+// The check of a candidate that passed the tests; `candidate` is its listed words.
+fn evaluate(
+    counts: Counts,
+    made: usize,
+    candidate: &[u64],
+    nodes: &[u32],
+    operands: &[u32],
+    roots: &[u32],
+    producers: &[u32],
+    readers: &[u64],
+    kept: &mut [u32],
+) -> Checked
+    requires { ⌜ Lent counts (length (now candidate)) (length (now nodes)) (length (now operands)) (length (now roots)) (length (now producers)) (length (now kept)) × (readerWords counts ≤ length (now readers)) × Within (counts .atoms) (member 64 (now candidate)) ⌝ }
+    ensures { λ r. ⌜ ((T : Tables) → Results (lent counts made (now (nodes .entry)) (now (operands .entry)) (now (roots .entry)) (now (producers .entry)) (now (readers .entry)) T) (now (kept .entry)) (result 64 8 (lent counts made (now (nodes .entry)) (now (operands .entry)) (now (roots .entry)) (now (producers .entry)) (now (readers .entry)) T) (member 64 (now (candidate .entry))) (ofWords (lent counts made (now (nodes .entry)) (now (operands .entry)) (now (roots .entry)) (now (producers .entry)) (now (readers .entry)) T) (now (kept .entry)))) r (now (kept .exit))) ⌝ }
+{
+    if made > counts.roots {
+        return Checked::Refused(Refusal::BadEntry(0));
+    }
+    if is_kept(counts, candidate, kept) {
+        update::update(
+            counts, made, candidate, nodes, operands, roots, producers, readers, kept,
+        )
+    } else {
+        fresh(
+            counts, made, candidate, nodes, operands, roots, producers, kept,
+        )
+    }
+}
+
+// After refusal 17 the listed words, n of them, are 0.
+fn settle(checked: Checked, kept: &mut [u32], n: usize) -> Checked
+    requires { ⌜ n ≤ length (now kept) ⌝ }
+    ensures { λ r. ⌜ (r ≡ checked) × (now (kept .exit) ≡ settled n checked (now (kept .entry))) ⌝ }
+{
+    match checked {
+        Checked::Accepted(v, count) => Checked::Accepted(v, count),
+        Checked::Refused(r) => {
+            words::clear(&mut kept[..n]);
+            Checked::Refused(r)
+        }
+    }
+}
+
+// Whether the candidate is a stable model, with the nodes gone over; `kept` is the kept evaluation (document 01's books).
+pub fn check(
+    counts: Counts,
+    plan: Plan,
+    stamp: u32,
+    candidate: &[u64],
+    nodes: &[u32],
+    operands: &[u32],
+    roots: &[u32],
+    producers: &[u32],
+    readers: &[u64],
+    kept: &mut [u32],
+) -> Checked
+    ensures { λ r. ⌜ outcomeOf r (now (kept .exit)) ≡ outcome 64 8 (tablesOf counts plan (now (nodes .entry)) (now (operands .entry)) (now (roots .entry)) (now (producers .entry)) (now (readers .entry))) (candidateOf stamp (now (candidate .entry))) (now (kept .entry)) ⌝ }
+{
+    let l = Lengths {
+        candidate: candidate.len(),
+        nodes: nodes.len(),
+        operands: operands.len(),
+        roots: roots.len(),
+        producers: producers.len(),
+        readers: readers.len(),
+        kept: kept.len(),
+    };
+    match tests::tests(counts, plan.stamp, stamp, candidate, l) {
+        Admission::Refused(r) => Checked::Refused(r),
+        Admission::Admitted => {
+            let words = (counts.atoms + 63) / 64;
+            let checked = evaluate(
+                counts,
+                plan.producers,
+                &candidate[..words],
+                nodes,
+                operands,
+                roots,
+                producers,
+                readers,
+                kept,
+            );
+            let n = 16 + 2 * counts.nodes + 3 * counts.atoms + counts.roots;
+            settle(checked, kept, n)
+        }
+    }
+}
