@@ -1,6 +1,6 @@
 -- A check from the parts that calls answer and leave.
 -- Assumes nothing.
-use Prim.Native.Nat.{ℕ, _<_, _≤_, _+_, _-_, _/_, max}
+use Prim.Native.Nat.{ℕ, _<_, _≤_, _+_, _-_, _*_, _/_, max}
 use native.Mathlib.Omega.{arith}
 use mathlib.Core.Path.{_≡_, refl, ap, ap₂, sym, _∙_}
 use mathlib.Core.Bool.{Bool, true, false, cond, _&&_}
@@ -11,11 +11,18 @@ use lib.ListN.{length, getD, drop, replicate}
 use lib.Seq.{drop-drop}
 use borrow.Author.Tests.{eq-eqb, ne-eqb, lt-ltb, le-ltb}
 use Rattle.formula.specs.Satisfaction.{Interpretation}
+use Rattle.formula.specs.Passes.{Within}
+use Rattle.readers.specs.ReaderTable.{readerWords}
+use Rattle.theory.specs.Admission.{orElse}
+use Rattle.theory.specs.Limits.{limitsOf, Limited}
+use Rattle.theory.specs.LimitsLaws.{within-limits}
+use Rattle.theory.specs.Refusals.{or-else-left}
 use Rattle.theory.specs.declared.Admission.{Admission}
 use Rattle.theory.specs.declared.Admission.the-variants.{Admitted, Refused}
 use Rattle.theory.specs.declared.Refusal.{Refusal}
 use Rattle.theory.specs.declared.Refusal.the-variants.{BadEntry}
 use Rattle.words.specs.Sets.{member}
+use Rattle.kept.specs.SetOf.{words64}
 use Rattle.kept.specs.Tables.{Tables, atomCount, nodeCount, rootCount}
 use Rattle.kept.specs.Evaluation as evaluation
 use Rattle.kept.specs.Evaluation.{Evaluation}
@@ -27,22 +34,48 @@ use Rattle.kept.specs.Check.{Result, tablesAdmission, freshResult, keptResult, 
 use Rattle.kept.specs.Layout.{ofWords, written, used, listed}
 use Rattle.kept.specs.LayoutLaws.{room, fits-fresh}
 use Rattle.kept.specs.Candidate.{Candidate, listedWords, atomsOf}
-use Rattle.kept.specs.Tests.{tests}
+use Rattle.kept.specs.Tests.{buffers, firstShort, stamps, strayBit, tests}
+use Rattle.kept.specs.TestLaws.{atoms-within, lent-long}
 use Rattle.kept.specs.Outcome as outcomes
 use Rattle.kept.specs.Outcome.{Outcome, cleared, outcomeAt, outcome}
 use Rattle.kept_laws.specs.Written.{of-written}
 use Rattle.kept_laws.specs.Wrote.{Beside, beside-same}
 use Rattle.complete.specs.Laid.{Laid}
+use Rattle.verdict.specs.declared.Verdict as verdicts
 use Rattle.update.specs.declared.Checked as checks
 use Rattle.update.specs.declared.Checked.the-variants as cases
 use Rattle.update.specs.Results.{answerOf, answerIn, Results}
 use Rattle.update.specs.ResultsLaws.{refused-results, concluded-results, results-by}
 use Rattle.evaluate.specs.Checks.{outcomeOf, settled}
 
--- the atoms of a candidate by its listed words
-pub atoms-of : (T : Tables) (c : Candidate) → atomsOf T c ≡ member 64 (listedWords T c)
-unfolding atomsOf
-atoms-of T c = refl
+-- ---- what the tests give
+
+pub record Passed (T : Tables) (c : Candidate) (size : ℕ) : Type 0 where
+  pub limited : Limited (T .counts)
+  pub candidate-long : words64 (atomCount T) ≤ length (c .words)
+  pub nodes-long : 3 * nodeCount T ≤ length (T .nodes)
+  pub operands-long : T .counts .operands ≤ length (T .operands)
+  pub roots-long : rootCount T ≤ length (T .roots)
+  pub producers-long : 4 * rootCount T ≤ length (T .producers)
+  pub readers-long : readerWords (T .counts) ≤ length (T .readers)
+  pub kept-long : listed T ≤ size
+  pub within : Within (atomCount T) (member 64 (listedWords T c))
+
+pub passed : (T : Tables) (c : Candidate) (size : ℕ) → Admitted ≡ tests T c size → Passed T c size
+unfolding tests atomsOf
+passed T c size e =
+    let h = lent-long T c size (sym e) in
+    record {
+      limited = within-limits (T .counts) (or-else-left (limitsOf (T .counts)) (orElse (firstShort (buffers T c size)) (orElse (stamps T c) (strayBit T c))) (sym e));
+      candidate-long = h .0;
+      nodes-long = h .1 .0;
+      operands-long = h .1 .1 .0;
+      roots-long = h .1 .1 .1 .0;
+      producers-long = h .1 .1 .1 .1 .0;
+      readers-long = h .1 .1 .1 .1 .1 .0;
+      kept-long = h .1 .1 .1 .1 .1 .1 .0;
+      within = atoms-within T c size (sym e);
+    }
 
 -- ---- whether it is kept
 
@@ -110,13 +143,24 @@ module _ (T : Tables) (c : Candidate) (ws : List ℕ) where
       (ap (λ n. drop n mid) split ∙ sym (drop-drop (listed T - used T) (used T) mid) ∙ ap (drop (listed T - used T)) (b .behind)
       ∙ drop-drop (listed T - used T) (used T) ws ∙ ap (λ n. drop n ws) (sym split))
 
-  pub outcome-checked : Admitted ≡ tests T c (length ws) → (r : checks.Checked) (mid : List ℕ) → Results T ws (result 64 8 T (atomsOf T c) (ofWords T ws)) r mid
+  pub outcome-checked : Admitted ≡ tests T c (length ws) → (r : checks.Checked) (mid : List ℕ) → Results T ws (result 64 8 T (member 64 (listedWords T c)) (ofWords T ws)) r mid
       → outcomeOf r (settled (listed T) r mid) ≡ outcome 64 8 T c ws
-  unfolding outcome outcomeAt settled
-  outcome-checked e r mid h = rw (sym e) (go r (result 64 8 T (atomsOf T c) (ofWords T ws)) h)
+  unfolding outcome outcomeAt settled atomsOf
+  outcome-checked e r mid h = rw (sym e) (go r (result 64 8 T (member 64 (listedWords T c)) (ofWords T ws)) h)
     where
       go : (r : checks.Checked) (x : Result) → Results T ws x r mid → outcomeOf r (settled (listed T) r mid) ≡ outcomes.concluded T ws x
       go (cases.Accepted v n) (check.accepted w m d) h = ap₂ (λ a l. record { answer = a; words = l }) (h .0) (h .1)
       go (cases.Accepted v n) (check.refused s) h = let p = h .0 in let z : _≡_ {A = ℕ} 0 1 = cc in absurd (omega arith)
       go (cases.Refused s) (check.accepted w m d) h = let p = h .0 in let z : _≡_ {A = ℕ} 0 1 = cc in absurd (omega arith)
       go (cases.Refused s) (check.refused t) h = ap₂ (λ a l. record { answer = a; words = l }) (h .0) (same-past mid (h .1))
+
+-- ---- the words after it
+
+module _ (n : ℕ) (x : checks.Checked) (ws : List ℕ) where
+  pub settled-accepted : (v : verdicts.Verdict) (k : ℕ) → x ≡ cases.Accepted v k → ws ≡ settled n x ws
+  unfolding settled
+  settled-accepted v k e = rw e
+
+  pub settled-refused : (r : Refusal) → x ≡ cases.Refused r → replicate n 0 ++ drop n ws ≡ settled n x ws
+  unfolding settled
+  settled-refused r e = rw e

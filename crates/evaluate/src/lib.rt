@@ -55,7 +55,14 @@ fn fresh(
     ensures { λ r. ⌜ ((T : Tables) → Results (planned counts made (now (nodes .entry)) (now (operands .entry)) (now (roots .entry)) (now (producers .entry)) T) (now (kept .entry)) (freshResult (planned counts made (now (nodes .entry)) (now (operands .entry)) (now (roots .entry)) (now (producers .entry)) T) (member 64 (now (candidate .entry))) (tablesAdmission (planned counts made (now (nodes .entry)) (now (operands .entry)) (now (roots .entry)) (now (producers .entry)) T) (member 64 (now (candidate .entry))))) r (now (kept .exit))) ⌝ }
 {
     match complete::complete(
-        counts, made, candidate, nodes, operands, roots, producers, kept,
+        counts,
+        made,
+        candidate,
+        nodes,
+        operands,
+        roots,
+        producers,
+        kept,
     ) {
         Admission::Refused(r) => Checked::Refused(r),
         Admission::Admitted => update::told(verdict::judge(counts, roots, kept), counts.nodes),
@@ -82,11 +89,26 @@ fn evaluate(
     }
     if is_kept(counts, candidate, kept) {
         update::update(
-            counts, made, candidate, nodes, operands, roots, producers, readers, kept,
+            counts,
+            made,
+            candidate,
+            nodes,
+            operands,
+            roots,
+            producers,
+            readers,
+            kept,
         )
     } else {
         fresh(
-            counts, made, candidate, nodes, operands, roots, producers, kept,
+            counts,
+            made,
+            candidate,
+            nodes,
+            operands,
+            roots,
+            producers,
+            kept,
         )
     }
 }

@@ -122,7 +122,14 @@ pub fn start(counts: Counts, candidate: &[u64], readers: &[u64], kept: &mut [u32
     let mut lowest = counts.nodes;
     let mut i = 0;
     while i < words {
-        match turn_word(counts, readers, kept, i, retained::half_word(candidate, i), lowest) {
+        match turn_word(
+            counts,
+            readers,
+            kept,
+            i,
+            retained::half_word(candidate, i),
+            lowest,
+        ) {
             Entered::Low(m) => {
                 lowest = m;
             }

@@ -89,12 +89,15 @@ module _ (T : Tables) (ws : List ℕ) (long : used T ≤ length ws) (from : ℕ)
         let s = stepped-took T now r after (step T i (ofWords T now)) k h e in
         let g : Fits T (s .0) = step-fits T i (ofWords T now) k (s .0) (s .1) (w .fits) in
         let holds : ofWords T after ≡ s .0 = ap (ofWords T) (s .2) ∙ of-written T now mid-long (s .0) g in
-        let b = step-next T i k (ofWords T now) (s .0) (s .1) in
-        (record {
-          fits = rw holds g;
-          put = s .2 ∙ ap (λ y. written T y (s .0)) (w .put) ∙ written-again T ws long (ofWords T now) (w .fits) (s .0) ∙ ap (written T ws) (sym holds);
-          left = w .left ∙ walk-more T n i k (ofWords T now) (s .0) l (s .1) ∙ ap (λ y. resumed T (n + 1) (walk T (suc (nodeCount T)) (k + 1) y)) (sym holds);
-        }, b .0, b .1)
+        let b = step-next T i k (ofWords T now) (s .0) (s .1) in (
+          record {
+            fits = rw holds g;
+            put = s .2 ∙ ap (λ y. written T y (s .0)) (w .put) ∙ written-again T ws long (ofWords T now) (w .fits) (s .0) ∙ ap (written T ws) (sym holds);
+            left = w .left ∙ walk-more T n i k (ofWords T now) (s .0) l (s .1) ∙ ap (λ y. resumed T (n + 1) (walk T (suc (nodeCount T)) (k + 1) y)) (sym holds);
+          },
+          b .0,
+          b .1,
+        )
 
     -- the worklist is empty
     pub walk-stands : r ≡ Idle → (c : Checked) → answerOf c ≡ answerIn (concluded (verdictOf T (ofWords T after)) n (ofWords T after)) → Results T ws whole c after

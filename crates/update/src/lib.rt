@@ -108,7 +108,15 @@ pub fn update(
     match start::start(counts, candidate, readers, kept) {
         Entered::Stray => Checked::Refused(Refusal::BadEntry(0)),
         Entered::Low(from) => walk(
-            counts, made, nodes, operands, roots, producers, readers, kept, from,
+            counts,
+            made,
+            nodes,
+            operands,
+            roots,
+            producers,
+            readers,
+            kept,
+            from,
         ),
     }
 }

@@ -1,3 +1,8 @@
+use Rattle.evaluate.specs.ChecksLaws.{settled-accepted, settled-refused}
+use lib.Seq.{length-take-le}
+use lib.ListN.{drop, replicate}
+use mathlib.Core.List.{_++_}
+use mathlib.Core.Path.{sym, ap, _∙_}
 use borrow.Author.Needs.{needs}
 use Rattle.evaluate.proofs.settle.Statement.{statement}
 use Rattle.evaluate.proofs.settle.Tie as tie
@@ -19,7 +24,7 @@ slice-relend-prefix-clear c = search needs
 
 -- src/lib.rt:102:26
 slice-aggregate-clear : tie.Need-slice-aggregate-clear
-slice-aggregate-clear c = ?
+slice-aggregate-clear c = sym (length-take-le (c .before .before .before .before .before .args .n) (c .before .before .before .before .before .args .kept .now) (c .before .before .before .before .before .pre))
 
 -- src/lib.rt:102:13
 clear-requires : tie.Need-clear-requires
@@ -27,7 +32,7 @@ clear-requires c κs = search needs
 
 -- src/lib.rt:95:1
 returns : tie.Need-returns
-returns c = ?
+returns c = (sym (c .before .checked .given .1), settled-accepted (c .before .before .before .before .args .n) (c .before .before .before .before .args .checked) (c .before .before .before .before .args .kept .now) _ _ (c .before .checked .given .1))
 
 -- src/lib.rt:95:1
 same-length : tie.Need-same-length
@@ -35,7 +40,7 @@ same-length c = search needs
 
 -- src/lib.rt:95:1
 returns-2 : tie.Need-returns-2
-returns-2 c = ?
+returns-2 c = (sym (c .before .before .before .before .before .checked2 .given .1), ap (λ l. l ++ drop (c .before .before .before .before .before .before .before .before .args .n) (c .before .before .before .before .before .before .before .before .args .kept .now)) (c .before .before .clear .ensures ∙ ap (λ m. replicate m 0) (length-take-le (c .before .before .before .before .before .before .before .before .args .n) (c .before .before .before .before .before .before .before .before .args .kept .now) (c .before .before .before .before .before .before .before .before .pre))) ∙ settled-refused (c .before .before .before .before .before .before .before .before .args .n) (c .before .before .before .before .before .before .before .before .args .checked) (c .before .before .before .before .before .before .before .before .args .kept .now) _ (c .before .before .before .before .before .checked2 .given .1))
 
 pub settle-spec : {M : Type 1} → statement M
 settle-spec =
