@@ -161,8 +161,8 @@ fn store_all(file: &[u8], nodes: &mut [u32], operands: &mut [u32], roots: &mut [
     }
 }
 
-// A sound file: 9, or else the tables.
-fn load_sound(
+// A sound file, as judged: 9, or else the tables.
+pub fn load_sound(
     file: &[u8],
     s: Summary,
     nodes: &mut [u32],
