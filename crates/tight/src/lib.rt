@@ -111,7 +111,14 @@ pub extern "C" fn tight_plan(
         roots: root_count,
     };
     let planning = plan::plan(
-        counts, nodes, operands, roots, producers, ranks, readers, work,
+        counts,
+        nodes,
+        operands,
+        roots,
+        producers,
+        ranks,
+        readers,
+        work,
     );
     put_planning(answer, planning);
 }
@@ -144,7 +151,15 @@ pub extern "C" fn tight_certify(
         roots: root_count,
     };
     let planning = plan::certify(
-        counts, nodes, operands, roots, proposed, producers, ranks, readers, work,
+        counts,
+        nodes,
+        operands,
+        roots,
+        proposed,
+        producers,
+        ranks,
+        readers,
+        work,
     );
     put_planning(answer, planning);
 }
