@@ -37,34 +37,6 @@ pub moved-empty : (most : ℕ) → moved most false 0 ≡ none
 unfolding moved
 moved-empty most = refl
 
--- ---- a member of a counted set
-
-module _ (n : ℕ) (s : CountedSet) (i : ℕ) where
-  -- it is so already
-  pub member-stays : (x : Bool) → member 32 (s .members) i ≡ x → withMember n s i x ≡ some s
-  unfolding withMember
-  member-stays x e = rw (unlike-same (member 32 (s .members) i) x e)
-
-  -- its count goes to m, or would leave its range
-  turned : (x : Bool) → unlike (member 32 (s .members) i) x ≡ true → (o : Option ℕ) → moved n x (s .size) ≡ o
-      → withMember n s i x ≡ andThen o (λ m. some (record { members = withBit (s .members) i x; size = m }))
-  unfolding withMember
-  turned x e o h = rw (e, h)
-
-  pub member-added : member 32 (s .members) i ≡ false → s .size < n → withMember n s i true ≡ some (record { members = inserted 32 (s .members) i; size = s .size + 1 })
-  unfolding withBit
-  member-added e l = turned true (rw e) (some (s .size + 1)) (moved-up n (s .size) l)
-
-  pub member-full : member 32 (s .members) i ≡ false → n ≤ s .size → withMember n s i true ≡ none
-  member-full e l = turned true (rw e) none (moved-full n (s .size) l)
-
-  pub member-dropped : member 32 (s .members) i ≡ true → 0 < s .size → withMember n s i false ≡ some (record { members = removed 32 (s .members) i; size = s .size - 1 })
-  unfolding withBit
-  member-dropped e l = turned false (rw e) (some (s .size - 1)) (moved-down n (s .size) l)
-
-  pub member-gone : member 32 (s .members) i ≡ true → s .size ≡ 0 → withMember n s i false ≡ none
-  member-gone e z = turned false (rw e) none (rw z (moved-empty n))
-
 -- ---- the lowest member from i on
 
 module _ (n i : ℕ) (s : CountedSet) where
@@ -94,12 +66,3 @@ module _ (T : Tables) (i : ℕ) (e : Evaluation) where
   pub step-unseen : (k : ℕ) → lookup (nodeCount T) i (e .worklist) ≡ at k → seen T e k ≡ none → step T i e ≡ fault k
   unfolding step stepAt
   step-unseen k h s = rw (h, s)
-
-  pub step-seen : (k : ℕ) (t : Bool) (w : CountedSet) → lookup (nodeCount T) i (e .worklist) ≡ at k → seen T e k ≡ some t → withMember (nodeCount T) (e .worklist) k false ≡ some w
-      → step T i e ≡ settled T k t (withWorklist e w)
-  unfolding step stepAt
-  step-seen k t w h s o = rw (h, s, o)
-
-  pub step-full : (k : ℕ) (t : Bool) → lookup (nodeCount T) i (e .worklist) ≡ at k → seen T e k ≡ some t → withMember (nodeCount T) (e .worklist) k false ≡ none → step T i e ≡ fault k
-  unfolding step stepAt
-  step-full k t h s o = rw (h, s, o)

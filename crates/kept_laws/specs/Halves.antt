@@ -122,13 +122,6 @@ module _ (kept new : List ℕ) (i : ℕ) where
       ap (λ m. places differ m 32) start ∙ places-shift differ (i * 32) 32 0
       ∙ ap (map (λ k. i * 32 + k)) (places-agree (λ k. differ (i * 32 + k)) (bit difference) 0 32 (λ k a b. differ-digit k (omega arith)))
 
-  -- and as many as its ones
-  pub word-changes : getD kept i 0 < 2 ^ 32 → count (λ a. unlike (member 32 kept a) (member 64 new a)) (i * 32) 32 ≡ ones difference
-  unfolding count
-  word-changes small =
-      ap length word-places ∙ length-map (places (bit difference) 0 32) (λ k. i * 32 + k)
-      ∙ sym (ones-count 32 difference (xor-lt 32 (getD kept i 0) (half new i) small (half-small new i)))
-
 -- one word more
 pub changes-next : (p : ℕ → Bool) (i : ℕ) → count p 0 (suc i * 32) ≡ count p 0 (i * 32) + count p (i * 32) 32
 changes-next p i =

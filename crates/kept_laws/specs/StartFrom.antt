@@ -68,7 +68,3 @@ module _ (T : Tables) (J : Interpretation) where
       ∙ start-jump (k - a) a (suc (a + n - (k + 1))) e (λ j p q. l .before j p (omega (arith, y)))
       ∙ ap (λ z. startFrom z (suc (a + n - (k + 1))) e) y
       ∙ start-turn k (a + n - (k + 1)) e (l .here h)
-
-  pub start-done : (a n : ℕ) (e : Evaluation) → ((j : ℕ) → a ≤ j → j < a + n → unlike (present e j) (J j) ≡ false) → startFrom a n e ≡ some e
-  unfolding startFrom
-  start-done a n e h = ap (λ m. startFrom a m e) (sym (add-zero n)) ∙ start-jump n a 0 e h

@@ -187,22 +187,7 @@ module _ (T : Tables) (e : Evaluation) (fits : Fits T e) (unused rest : List ℕ
   pub read-falseRoots : take (used T - falseRootsStart T) (drop (falseRootsStart T) (image e unused rest)) ≡ e .falseRoots .members
   read-falseRoots = read-part 7 (falseRootsStart T) (used T) (at-falseRoots 0) (omega (arith, fits .falseRoots))
 
-  pub lend-worklist : (y : List ℕ)
-      → take (worklistStart T) (image e unused rest) ++ (y ++ drop (supportStart T) (image e unused rest)) ≡ image (withWorklist e (withMembers (e .worklist) y)) unused rest
-  unfolding image
-  lend-worklist y = lend-part 3 (worklistStart T) (supportStart T) y (omega arith) (at-worklist 0) (omega (arith, fits .worklist))
-
   pub lend-candidate : (y : List ℕ)
       → take (candidateStart T) (image e unused rest) ++ (y ++ drop (missingStart T) (image e unused rest)) ≡ image (withCandidate e y (e .missing)) unused rest
   unfolding image
   lend-candidate y = lend-part 5 (candidateStart T) (missingStart T) y (omega arith) (at-candidate 0) (omega (arith, fits .candidate))
-
-  pub lend-missing : (y : List ℕ)
-      → take (missingStart T) (image e unused rest) ++ (y ++ drop (falseRootsStart T) (image e unused rest)) ≡ image (withSupport e (e .support) (withMembers (e .missing) y)) unused rest
-  unfolding image
-  lend-missing y = lend-part 6 (missingStart T) (falseRootsStart T) y (omega arith) (at-missing 0) (omega (arith, fits .missing))
-
-  pub lend-falseRoots : (y : List ℕ)
-      → take (falseRootsStart T) (image e unused rest) ++ (y ++ drop (used T) (image e unused rest)) ≡ image (withFalseRoots e (withMembers (e .falseRoots) y)) unused rest
-  unfolding image
-  lend-falseRoots y = lend-part 7 (falseRootsStart T) (used T) y (omega arith) (at-falseRoots 0) (omega (arith, fits .falseRoots))

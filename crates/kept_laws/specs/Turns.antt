@@ -1,4 +1,4 @@
--- The turns and ends of the loops of a kept check: over a list of the reader table, over the walk's steps.
+-- The turns and the end of the walk as a loop of steps.
 -- Assumes nothing.
 use Prim.Native.Nat.{ℕ, suc, _<_, _≤_, _+_, _-_}
 use native.Mathlib.Numerals.{add-one}
@@ -23,37 +23,6 @@ use Rattle.kept.specs.Start.{allEntered}
 use Rattle.kept.specs.Walk.{Walked, ended, broken, after, walk}
 use Rattle.kept.specs.Check.{Result, refused, concluded, keptResult}
 use Rattle.kept_laws.specs.WalkEnds.{walk-on}
-
--- ---- a part of a table, from i up to b
-
-part-more : (ws : List ℕ) (i b : ℕ) → i < b → b ≤ length ws → part ws i b ≡ getD ws i 0 ∷ part ws (i + 1) b
-part-more ws i b l m =
-    let left : b - i ≡ suc (b - (i + 1)) = omega arith in
-    rw (left, drop-cons ws i 0 (omega arith), add-one)
-
-part-none : (ws : List ℕ) (i b : ℕ) → b ≤ i → part ws i b ≡ []
-part-none ws i b l = let left : b - i ≡ 0 = omega arith in rw left
-
-module _ (T : Tables) (ws : List ℕ) (i b : ℕ) (e : Evaluation) where
-  -- over the readers of node k, which has become t
-  pub told-more : (k : ℕ) (t : Bool) → i < b → b ≤ length ws
-      → readersUpdated T k t e (part ws i b) ≡ andThen (readerUpdated T k t e (readingOf (getD ws i 0))) (λ d. readersUpdated T k t d (part ws (i + 1) b))
-  unfolding readersUpdated
-  told-more k t l m = ap (readersUpdated T k t e) (part-more ws i b l m)
-
-  pub told-done : (k : ℕ) (t : Bool) → b ≤ i → readersUpdated T k t e (part ws i b) ≡ some e
-  unfolding readersUpdated
-  told-done k t l = ap (readersUpdated T k t e) (part-none ws i b l)
-
-  -- over the atom nodes of a changed atom
-  pub entered-more : i < b → b ≤ length ws
-      → allEntered T e (part ws i b) ≡ andThen (cond (ltb (getD ws i 0) (nodeCount T)) (entered T (getD ws i 0) e) none) (λ d. allEntered T d (part ws (i + 1) b))
-  unfolding allEntered
-  entered-more l m = ap (allEntered T e) (part-more ws i b l m)
-
-  pub entered-done : b ≤ i → allEntered T e (part ws i b) ≡ some e
-  unfolding allEntered
-  entered-done l = ap (allEntered T e) (part-none ws i b l)
 
 -- ---- the walk's steps: n nodes are behind
 

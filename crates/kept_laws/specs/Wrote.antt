@@ -55,14 +55,6 @@ module _ (T : Tables) (ws : List ℕ) (o : Option Evaluation) (after : List ℕ)
       go none q h = (q, h .1)
       go (some e) q h = absurd (true≢false (sym (h .0) ∙ p))
 
-  -- in either case
-  pub wrote-beside : (ok : Bool) → used T ≤ length ws → ((e : Evaluation) → o ≡ some e → Fits T e) → Wrote T ws o ok after → Beside T ws after
-  wrote-beside ok l f w = go o refl w
-    where
-      go : (x : Option Evaluation) → o ≡ x → Wrote T ws x ok after → Beside T ws after
-      go none q h = h .1
-      go (some e) q h = rw (h .1) (beside-written T ws e l (f e q))
-
 -- nothing to do
 pub wrote-same : (T : Tables) (ws : List ℕ) → used T ≤ length ws → Wrote T ws (some (ofWords T ws)) true ws
 wrote-same T ws l = (refl, sym (written-same T ws l))
