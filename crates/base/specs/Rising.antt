@@ -5,9 +5,9 @@ use native.Mathlib.Numerals.{add-one}
 use native.Mathlib.Omega.{arith}
 use mathlib.Core.Path.{_≡_, refl, ap, ap₂, sym, _∙_, fun-ext}
 use mathlib.Core.Logic.{⊎-elim}
-use mathlib.Core.List.{List, [], _∷_, _++_, map, append-nil, map-append, append-assoc}
-use lib.ListN.{length, getD, take, drop, set, length-append, List·getD-append, List·getD-eq-default, List·getD-map}
-use lib.Seq.{getD-append-seam, take-append-le, ext-getD, take-all, drop-cons, set-at, getD-at}
+use mathlib.Core.List.{List, [], _∷_, _++_, map, map-append, append-assoc}
+use lib.ListN.{length, getD, drop, set, length-append, List·getD-append, List·getD-map}
+use lib.Seq.{drop-cons, set-at, getD-at}
 use Rattle.base.specs.Tests.{equal-or}
 
 -- d stands for the value of a number that has none yet

@@ -1,15 +1,14 @@
 -- A root that is not refused has, as the papers see it, its node's formula; its producer names an atom and nodes of the theory.
 -- Assumes nothing.
-use Prim.Native.Nat.{ℕ, zero, suc, _+_, _<_, _≤_}
+use Prim.Native.Nat.{ℕ, _+_, _<_, _≤_}
 use native.Mathlib.Omega.{arith}
-use mathlib.Core.Path.{_≡_, refl, sym, ap, ap₂, _∙_}
+use mathlib.Core.Path.{_≡_, refl, sym, ap, _∙_}
 use mathlib.Core.Bool.{Bool, true, false, cond}
-use mathlib.Core.List.{List, [], _∷_, map}
+use mathlib.Core.List.{List}
 use mathlib.Core.Option.{Option, some, none}
 use lib.Dec.{eqb}
-use lib.ListN.{length, getD, take}
-use Rattle.base.specs.Each.{Each, map-agree}
-use Rattle.formula.specs.Formula.{Formula, Formulas, falsum, implies, ofList}
+use lib.ListN.{length, getD}
+use Rattle.formula.specs.Formula.{Formula, implies}
 use Rattle.formula.specs.Head.{Head, normal, choice, flipped, headAtom, headFormula}
 use Rattle.formula.specs.Root as papers
 use Rattle.theory.specs.Node.{nodeAt}
@@ -23,8 +22,7 @@ use Rattle.theory.proofs.Meaning.{formula-step}
 use Rattle.theory.specs.declared.Counts.{Counts}
 use Rattle.theory.specs.declared.Node.{Node}
 use Rattle.theory.specs.declared.Node.the-variants.{Atom, False, Implies, And, Or, Unknown}
-use Rattle.theory.specs.declared.Refusal.{Refusal}
-use Rattle.theory.specs.declared.Refusal.the-variants.{UnsupportedRoot, UnsupportedBody}
+use Rattle.theory.specs.declared.Refusal.the-variants.{UnsupportedBody}
 use Rattle.theory.specs.declared.Admission.the-variants as admission
 use Rattle.compile.specs.Head.{headOf}
 use Rattle.compile.specs.HeadLaws.{is-false, head-below, head-formula}

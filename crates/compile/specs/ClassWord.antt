@@ -1,12 +1,11 @@
 -- The classes of nodes as words: 0 Frozen, 1 Positive, 2 Opaque, so that a group has the greatest of its operands'.
 -- Assumes nothing.
-use Prim.Native.Nat.{ℕ, _+_, _<_, _≤_, max}
-use native.Mathlib.Omega.{arith}
-use mathlib.Core.Path.{_≡_, refl, ap, sym, _∙_}
+use Prim.Native.Nat.{ℕ, _+_, _<_, max}
+use mathlib.Core.Path.{_≡_, refl, ap, _∙_}
 use mathlib.Core.Bool.{Bool, true, false, cond}
 use mathlib.Core.List.{List, [], _∷_, _++_, map}
 use lib.ListN.{length, getD, set, drop}
-use Rattle.base.specs.Each.{Each, map-agree}
+use Rattle.base.specs.Each.{map-agree}
 use Rattle.base.specs.Rising.{rising, rising-map, filled-none, filled-more, filled-at}
 use Rattle.formula.specs.Class.{Class, positive, frozen, opaque, join}
 use Rattle.theory.specs.Node.{nodeAt, span}

@@ -1,9 +1,9 @@
 -- The greatest value that some operands have, and what a loop that carries it keeps.
 -- Assumes nothing.
-use Prim.Native.Nat.{ℕ, zero, suc, _+_, _-_, _<_, _≤_, max}
+use Prim.Native.Nat.{ℕ, suc, _+_, _-_, _<_, _≤_, max}
 use native.Mathlib.Omega.{arith}
-use mathlib.Core.Path.{_≡_, refl, sym, _∙_}
-use mathlib.Core.List.{List, [], _∷_, map}
+use mathlib.Core.Path.{_≡_, sym, _∙_}
+use mathlib.Core.List.{List, map}
 use lib.ListN.{length, getD}
 use Rattle.theory.specs.Node.{span}
 use Rattle.theory.specs.NodeRank.{greatest}

@@ -1,7 +1,7 @@
 -- The head that a node makes: an Atom is normal; a choice is an Or of two operands in either order, an Atom node and an Implies from that same node to a False node.
 -- Assumes nothing.
 use Prim.Native.Nat.{ℕ, _+_}
-use mathlib.Core.Bool.{Bool, true, false, cond, _&&_}
+use mathlib.Core.Bool.{Bool, false, cond, _&&_}
 use mathlib.Core.List.{List}
 use mathlib.Core.Option.{Option, some, none}
 use lib.Dec.{eqb}

@@ -1,24 +1,24 @@
 -- A head that a node of well-formed tables makes: its atom is one of the theory's, and its formula is the node's.
 -- Assumes nothing.
-use Prim.Native.Nat.{ℕ, suc, _+_, _<_, _≤_}
+use Prim.Native.Nat.{ℕ, _+_, _<_, _≤_}
 use native.Mathlib.Omega.{arith}
-use mathlib.Core.Path.{_≡_, refl, sym, ap, ap₂, _∙_}
-use mathlib.Core.Bool.{Bool, true, false, cond, _&&_, false≢true}
-use mathlib.Core.List.{List, [], _∷_, map}
+use mathlib.Core.Path.{_≡_, refl, sym, ap, _∙_}
+use mathlib.Core.Bool.{Bool, true, false, cond, false≢true}
+use mathlib.Core.List.{List, [], _∷_}
 use mathlib.Core.Option.{Option, some, none}
 use lib.Dec.{eqb}
 use lib.ListN.{length, getD}
 use borrow.Author.Tests.{eqb-true}
 use Rattle.base.specs.Tests.{both-left, both-right}
 use Rattle.base.specs.Each.{Each}
-use Rattle.formula.specs.Formula.{Formula, Formulas, atom, falsum, implies, conj, disj, nil, cons, ofList}
+use Rattle.formula.specs.Formula.{Formula, atom, disj, nil, cons, ofList}
 use Rattle.formula.specs.Head.{Head, normal, choice, flipped, headAtom, headFormula, negated}
 use Rattle.theory.specs.Node.{nodeAt, span}
 use Rattle.theory.specs.NodeClass.{isFalse}
 use Rattle.theory.specs.NodeFormula.{nodeFormula, formula}
-use Rattle.theory.specs.WellFormed.{NodeFormed, NodeTables, WellFormed}
-use Rattle.theory.specs.Formed.{atom-below, right-below, or-indexed}
-use Rattle.theory.specs.Spans.{Indexed, span-more}
+use Rattle.theory.specs.WellFormed.{NodeTables, WellFormed}
+use Rattle.theory.specs.Formed.{atom-below, or-indexed}
+use Rattle.theory.specs.Spans.{span-more}
 use Rattle.theory.proofs.Meaning.{formula-step}
 use Rattle.theory.specs.declared.Counts.{Counts}
 use Rattle.theory.specs.declared.Node.{Node}

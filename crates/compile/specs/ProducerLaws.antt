@@ -1,9 +1,8 @@
 -- The exits of the functions that make a producer.
 -- Assumes nothing.
 use Prim.Native.Nat.{ℕ, _+_}
-use native.Mathlib.Omega.{arith}
-use mathlib.Core.Path.{_≡_, refl, sym, ap, _∙_}
-use mathlib.Core.Bool.{Bool, true, false, cond}
+use mathlib.Core.Path.{_≡_, refl}
+use mathlib.Core.Bool.{cond}
 use mathlib.Core.List.{List}
 use mathlib.Core.Option.{Option, some, none}
 use lib.Dec.{eqb}
@@ -12,12 +11,10 @@ use Rattle.formula.specs.Head.{Head, normal, choice, flipped}
 use Rattle.theory.specs.declared.Refusal.the-variants.{UnsupportedRoot, UnsupportedBody}
 use Rattle.compile.specs.Head.{eitherOrder, foundOf, headedOf}
 use Rattle.compile.specs.Producer.{fact, rule}
-use Rattle.compile.specs.declared.Found.{Found}
 use Rattle.compile.specs.declared.Found.the-variants.{At, Nowhere}
-use Rattle.compile.specs.declared.Headed.{Headed}
 use Rattle.compile.specs.declared.Headed.the-variants.{Normal, Choice, Unsupported}
 use Rattle.compile.specs.declared.Produced.{Produced}
-use Rattle.compile.specs.declared.Produced.the-variants.{Nothing, Made, Refused}
+use Rattle.compile.specs.declared.Produced.the-variants.{Made, Refused}
 
 -- ---- a choice in either order
 

@@ -1,6 +1,6 @@
 -- The producers of a theory in root order, the first root that is refused (10, 11), and the producers as words.
 -- Assumes nothing.
-use Prim.Native.Nat.{ℕ, zero, suc, _+_, _*_, _<_, _≤_}
+use Prim.Native.Nat.{ℕ, _+_}
 use mathlib.Core.List.{List, [], _∷_, _++_}
 use lib.ListN.{getD}
 use Rattle.theory.specs.Admission.{firstRefusal}

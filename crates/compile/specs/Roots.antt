@@ -1,33 +1,28 @@
 -- A root as the papers see it: a constraint, a denial, a fact or a rule.
 -- Assumes nothing.
-use Prim.Native.Nat.{ℕ, zero, suc, _+_, _<_, _≤_}
+use Prim.Native.Nat.{ℕ, _+_}
 use native.Mathlib.Omega.{arith}
-use mathlib.Core.Path.{_≡_, refl, sym, ap, ap₂, _∙_}
+use mathlib.Core.Path.{_≡_, refl, sym, ap}
 use mathlib.Core.Bool.{Bool, true, false, cond}
 use mathlib.Core.List.{List, map}
 use mathlib.Core.Option.{Option, some, none}
 use lib.Dec.{eqb}
-use lib.ListN.{length, getD, take}
+use lib.ListN.{getD, take}
 use borrow.Author.Tests.{eqb-false}
-use Rattle.formula.specs.Formula.{Formula, falsum, implies}
-use Rattle.formula.specs.Head.{Head, normal, choice, flipped, headAtom, headFormula}
-use Rattle.formula.specs.Root.{Root, constraint, denial, fact, rule, rootFormula}
+use Rattle.formula.specs.Formula.{Formula}
+use Rattle.formula.specs.Head.{Head, headAtom}
+use Rattle.formula.specs.Root.{Root, constraint, denial, fact, rule}
 use Rattle.theory.specs.Node.{nodeAt}
 use Rattle.theory.specs.NodeClass.{isFalse}
-use Rattle.theory.specs.NodeFormula.{nodeFormula, formula}
-use Rattle.theory.specs.WellFormed.{NodeTables, WellFormed}
-use Rattle.theory.proofs.Meaning.{formula-step}
+use Rattle.theory.specs.NodeFormula.{formula}
 use Rattle.theory.specs.declared.Counts.{Counts}
 use Rattle.theory.specs.declared.Node.{Node}
 use Rattle.theory.specs.declared.Node.the-variants.{Atom, False, Implies, And, Or, Unknown}
-use Rattle.theory.specs.declared.Refusal.{Refusal}
-use Rattle.theory.specs.declared.Refusal.the-variants.{UnsupportedRoot, UnsupportedBody}
+use Rattle.theory.specs.declared.Refusal.the-variants.{UnsupportedBody}
 use Rattle.compile.specs.Head.{headOf}
-use Rattle.compile.specs.HeadLaws.{is-false, head-below, head-formula}
 use Rattle.compile.specs.Producer as producing
-use Rattle.compile.specs.Producer.{kindWord, producer, producedBy, produced}
+use Rattle.compile.specs.Producer.{producer, producedBy, produced}
 use Rattle.compile.specs.declared.Producer.{Producer}
-use Rattle.compile.specs.declared.Produced.{Produced}
 use Rattle.compile.specs.declared.Produced.the-variants.{Nothing, Made, Refused}
 
 -- a root that is refused counts as a constraint: no plan has it

@@ -1,7 +1,7 @@
 // The plan's first half: classes of nodes, and the producers of roots. A port of tight/compile.rs.
 ghost use mathlib.Core.Path.{_≡_};
 ghost use mathlib.Core.List.{_++_};
-ghost use Prim.Native.Nat.{ℕ, _+_, _*_, _<_, _≤_};
+ghost use Prim.Native.Nat.{_+_, _*_, _<_, _≤_};
 ghost use lib.ListN.{length, getD, drop};
 ghost use Rattle.theory.specs.Node.{nodeAt};
 ghost use Rattle.theory.specs.NodeClass.{isFalse};

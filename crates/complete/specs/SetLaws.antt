@@ -10,7 +10,6 @@ use lib.Dec.{eqb, ltb}
 use lib.ListN.{getD}
 use borrow.Author.Tests.{lt-ltb, le-ltb}
 use Rattle.base.specs.Tests.{below-or}
-use Rattle.words.specs.Sets.{member}
 use Rattle.words.specs.Next.{next}
 use Rattle.words.specs.NextLaws.{next-is}
 use Rattle.kept.specs.SetOfLaws.{length-setOf}

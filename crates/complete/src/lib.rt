@@ -1,7 +1,7 @@
 // The fresh check: `complete` and `summarize` of tight/evaluate.rs on the words of a kept evaluation.
 ghost use mathlib.Core.Path.{_≡_};
 ghost use Prim.Native.Nat.{ℕ, _+_, _*_, _<_, _≤_};
-ghost use lib.ListN.{length, getD, replicate};
+ghost use lib.ListN.{length, getD};
 ghost use Rattle.formula.specs.Passes.{Within};
 ghost use Rattle.theory.specs.Admission.{orElse, firstRefusal};
 ghost use Rattle.theory.specs.Limits.{Limited};

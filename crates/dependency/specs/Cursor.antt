@@ -1,11 +1,10 @@
 -- The dependencies before a cursor, and what a step of it gives: one more of them, in order, or none.
 -- Assumes nothing.
-use Prim.Native.Nat.{ℕ, zero, suc, _+_, _-_, _<_, _≤_}
+use Prim.Native.Nat.{ℕ, _+_, _-_, _<_, _≤_}
 use mathlib.Core.Path.{_≡_}
-use mathlib.Core.Bool.{Bool, true, false, cond}
+use mathlib.Core.Bool.{cond}
 use mathlib.Core.List.{List, [], _∷_, _++_}
 use lib.Dec.{ltb}
-use lib.ListN.{length, getD}
 use Rattle.base.specs.Gather.{gather}
 use Rattle.graph.specs.Edge.{Edge, edge}
 use Rattle.theory.specs.Node.{nodeAt, span}

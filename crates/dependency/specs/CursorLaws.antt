@@ -6,17 +6,17 @@ use native.Mathlib.Omega.{arith}
 use mathlib.Core.Path.{_≡_, refl, sym, ap, _∙_}
 use mathlib.Core.Bool.{Bool, true, false, cond}
 use mathlib.Core.List.{List, [], _∷_, _++_, append-assoc, append-nil}
-use lib.Dec.{eqb, ltb}
-use lib.ListN.{length, getD, take, drop, length-drop}
+use lib.Dec.{ltb}
+use lib.ListN.{length, getD, drop, length-drop}
 use lib.Seq.{take-suc, getD-drop}
 use borrow.Author.Tests.{ltb-false, lt-ltb, le-ltb, eq-eqb, ne-eqb}
 use Rattle.base.specs.Gather.{gather, gather-more}
 use Rattle.graph.specs.Edge.{Edge, edge}
 use Rattle.theory.specs.Node.{nodeAt, span}
 use Rattle.theory.specs.Admission.{spanStart, spanEnd}
-use Rattle.theory.specs.Spans.{Indexed, length-span}
+use Rattle.theory.specs.Spans.{Indexed}
 use Rattle.theory.specs.Formed.{and-indexed, or-indexed}
-use Rattle.theory.specs.WellFormed.{NodeFormed, NodeTables, RootTable, WellFormed}
+use Rattle.theory.specs.WellFormed.{NodeTables}
 use Rattle.theory.specs.declared.Counts.{Counts}
 use Rattle.theory.specs.declared.Node.{Node}
 use Rattle.theory.specs.declared.Node.the-variants as node
@@ -25,7 +25,6 @@ use Rattle.compile.specs.Producer.{produced}
 use Rattle.compile.specs.declared.Producer.{Producer}
 use Rattle.compile.specs.declared.Produced.{Produced}
 use Rattle.compile.specs.declared.Produced.the-variants.{Nothing, Made, Refused}
-use Rattle.compile.proofs.RootFormula.{producer-bounded}
 use Rattle.ranks.specs.Dependency.{positive, only, operandEdges, nodeEdges, bodyEdges, producedEdges, edgesInto, edgesOf, dependencies}
 use Rattle.dependency.specs.Cursor.{slots, slotEdges, before, left, InRange, Moved}
 use Rattle.dependency.specs.declared.Cursor.{Cursor}

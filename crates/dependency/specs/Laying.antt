@@ -1,9 +1,9 @@
 -- The dependencies laid one by one in a work area behind the class words.
 -- Assumes nothing.
-use Prim.Native.Nat.{ℕ, zero, suc, _+_, _*_, _-_, _<_, _≤_}
+use Prim.Native.Nat.{ℕ, _+_, _*_, _-_, _<_, _≤_}
 use mathlib.Core.Path.{_≡_}
-use mathlib.Core.Bool.{Bool, true, false}
-use mathlib.Core.List.{List, [], _∷_, _++_}
+use mathlib.Core.Bool.{true, false}
+use mathlib.Core.List.{List}
 use lib.ListN.{length, getD, take, drop}
 use Rattle.theory.specs.Limits.{Limited}
 use Rattle.theory.specs.Admission.{spanStart}
@@ -12,7 +12,6 @@ use Rattle.theory.specs.declared.Counts.{Counts}
 use Rattle.kahn.specs.Laid.{Laid}
 use Rattle.ranks.specs.Dependency.{dependencies}
 use Rattle.dependency.specs.Cursor.{before, left, InRange}
-use Rattle.dependency.specs.declared.Cursor.{Cursor}
 use Rattle.dependency.specs.declared.Laying.{Laying}
 
 -- at most so many dependencies

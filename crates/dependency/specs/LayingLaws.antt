@@ -1,13 +1,13 @@
 -- One step of laying dependencies.
 -- Assumes nothing.
-use Prim.Native.Nat.{ℕ, zero, suc, _+_, _*_, _-_, _<_, _≤_}
+use Prim.Native.Nat.{ℕ, suc, _+_, _*_, _-_, _<_, _≤_}
 use native.Mathlib.Omega.{arith}
 use mathlib.Core.Path.{_≡_, refl, sym, ap, _∙_}
 use mathlib.Core.Bool.{Bool, true, false, cond, true≢false, false≢true}
 use mathlib.Core.List.{List, [], _∷_, _++_, append-nil}
 use lib.ListN.{length, getD, take, drop, length-append, length-drop}
-use lib.Seq.{length-take-le, take-at, drop-at, take-all, drop-length, drop-drop}
-use Rattle.graph.specs.Edge.{Edge, edge}
+use lib.Seq.{length-take-le, take-at, drop-at, drop-length, drop-drop}
+use Rattle.graph.specs.Edge.{edge}
 use Rattle.theory.specs.declared.Counts.{Counts}
 use Rattle.kahn.specs.Area.{Sized, part}
 use Rattle.kahn.specs.Laid.{laying, Laid}
@@ -16,7 +16,7 @@ use Rattle.theory.specs.Admission.{spanStart}
 use Rattle.kahn.proofs.Laying.{degree-most, laid-none, laid-more}
 use Rattle.ranks.specs.Dependency.{dependencies}
 use Rattle.ranks.specs.Highest.{part-rest}
-use Rattle.dependency.specs.Cursor.{before, left, InRange, Moved, Stepped}
+use Rattle.dependency.specs.Cursor.{before, left, Moved}
 use Rattle.dependency.specs.Lent.{Lent}
 use Rattle.dependency.specs.Laying.{most, Ready, LaidBefore, LaidNext, Empty, AllLaid}
 use Rattle.dependency.specs.CursorLaws.{before-node}

@@ -1,7 +1,7 @@
 // The dependencies of a theory one by one, and the derivation of ranks over them: `each_dependency` and `derive_ranks` of tight/compile.rs.
 ghost use mathlib.Core.Path.{_≡_};
-ghost use Prim.Native.Nat.{ℕ, _+_, _*_, _<_, _≤_};
-ghost use lib.ListN.{length, getD, take, drop};
+ghost use Prim.Native.Nat.{_+_, _*_, _<_, _≤_};
+ghost use lib.ListN.{take};
 ghost use Rattle.theory.specs.Node.{nodeAt};
 ghost use Rattle.graph.specs.Derive.{derive};
 ghost use Rattle.kahn.specs.Area.{part};

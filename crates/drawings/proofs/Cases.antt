@@ -1,6 +1,5 @@
 -- C1 to C9 of document 01, by one theorem over a table of them.
 -- Assumes nothing.
-use Prim.Native.Nat.{ℕ}
 use mathlib.Core.Path.{_≡_, refl}
 use mathlib.Core.List.{List, [], _∷_, map}
 use Rattle.base.specs.Front.{front}

@@ -1,7 +1,7 @@
 -- What the planner makes of document 01's example, by computation; C5 and C6 stand with the other cases.
 -- Assumes nothing.
 use mathlib.Core.Path.{_≡_, refl}
-use mathlib.Core.List.{List, [], _∷_}
+use mathlib.Core.List.{[], _∷_}
 use Rattle.base.specs.Places.{places, lowest}
 use Rattle.base.specs.Rising.{rising, extended}
 use Rattle.base.specs.Gather.{gather}

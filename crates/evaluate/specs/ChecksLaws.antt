@@ -2,11 +2,10 @@
 -- Assumes nothing.
 use Prim.Native.Nat.{ℕ, _<_, _≤_, _+_, _-_, _*_, _/_, max}
 use native.Mathlib.Omega.{arith}
-use mathlib.Core.Path.{_≡_, refl, ap, ap₂, sym, _∙_}
-use mathlib.Core.Bool.{Bool, true, false, cond, _&&_}
+use mathlib.Core.Path.{_≡_, ap, ap₂, sym, _∙_}
+use mathlib.Core.Bool.{true, false}
 use mathlib.Core.List.{List, _++_}
-use mathlib.Core.Option.{some}
-use lib.Dec.{eqb, ltb, leb}
+use lib.Dec.{leb}
 use lib.ListN.{length, getD, drop, replicate}
 use lib.Seq.{drop-drop}
 use borrow.Author.Tests.{eq-eqb, ne-eqb, lt-ltb, le-ltb}
@@ -26,7 +25,7 @@ use Rattle.kept.specs.SetOf.{words64}
 use Rattle.kept.specs.Tables.{Tables, atomCount, nodeCount, rootCount}
 use Rattle.kept.specs.Evaluation as evaluation
 use Rattle.kept.specs.Evaluation.{Evaluation}
-use Rattle.kept.specs.Verdict.{verdict, verdictOf}
+use Rattle.kept.specs.Verdict.{verdictOf}
 use Rattle.kept.specs.VerdictLaws.{verdict-fresh}
 use Rattle.kept.specs.Walk.{keptWalk}
 use Rattle.kept.specs.Check as check
@@ -37,7 +36,7 @@ use Rattle.kept.specs.Candidate.{Candidate, listedWords, atomsOf}
 use Rattle.kept.specs.Tests.{buffers, firstShort, stamps, strayBit, tests}
 use Rattle.kept.specs.TestLaws.{atoms-within, lent-long}
 use Rattle.kept.specs.Outcome as outcomes
-use Rattle.kept.specs.Outcome.{Outcome, cleared, outcomeAt, outcome}
+use Rattle.kept.specs.Outcome.{cleared, outcomeAt, outcome}
 use Rattle.kept_laws.specs.Written.{of-written}
 use Rattle.kept_laws.specs.Wrote.{Beside, beside-same}
 use Rattle.complete.specs.Laid.{Laid}

@@ -12,7 +12,7 @@ ghost use Rattle.kept.specs.Layout.{ofWords};
 ghost use Rattle.kept.specs.Check.{freshResult, tablesAdmission, isKept, result};
 ghost use Rattle.kept.specs.Outcome.{outcome};
 ghost use Rattle.kept_laws.specs.Given.{usedBy, sized, planned};
-ghost use Rattle.update.specs.Results.{lent, answerOf, Results};
+ghost use Rattle.update.specs.Results.{lent, Results};
 ghost use Rattle.evaluate.specs.Checks.{Lent, tablesOf, candidateOf, outcomeOf, settled};
 use tests::Lengths;
 use theory::Admission;

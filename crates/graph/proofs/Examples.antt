@@ -7,7 +7,7 @@ use Rattle.base.specs.Rising.{rising, extended}
 use Rattle.graph.specs.Edge.{edge}
 use Rattle.graph.specs.Removed.{remaining, removed}
 use Rattle.graph.specs.Depth.{peak, depth}
-use Rattle.graph.specs.Derive.{Derived, ranks, cycle, derive}
+use Rattle.graph.specs.Derive.{ranks, cycle, derive}
 
 -- no edge
 lone : derive 2 2 [] ≡ ranks (0 ∷ 0 ∷ [])

@@ -4,17 +4,13 @@ use Prim.Native.Nat.{ℕ, zero, suc, _+_, _-_, _<_, _≤_}
 use native.Mathlib.Numerals.{add-one}
 use native.Mathlib.Omega.{arith}
 use mathlib.Core.Path.{_≡_, refl}
-use mathlib.Core.Bool.{Bool, true, false}
-use mathlib.Core.Option.{Option, some, none}
+use mathlib.Core.Bool.{true, false}
+use mathlib.Core.Option.{some, none}
 use borrow.Author.Tests.{eq-eqb, ne-eqb, lt-ltb, le-ltb}
-use Rattle.words.specs.Changed.{unlike}
 use Rattle.words.specs.Next.{next}
-use Rattle.words.specs.Sets.{member, inserted, removed}
-use Rattle.kept.specs.CountedSet.{andThen, CountedSet, moved, withBit, withMember, empty, astray, at, lookup}
-use Rattle.kept.specs.CountedSetLaws.{unlike-same}
+use Rattle.kept.specs.CountedSet.{CountedSet, moved, empty, astray, at, lookup}
 use Rattle.kept.specs.Evaluation.{Evaluation}
-use Rattle.kept.specs.Parts.{withWorklist}
-use Rattle.kept.specs.Step.{fault, idle, settled, seen, stepAt, step}
+use Rattle.kept.specs.Step.{fault, idle, seen, stepAt, step}
 use Rattle.kept.specs.Tables.{Tables, nodeCount}
 
 -- ---- a count within 0 and most

@@ -8,17 +8,16 @@ use mathlib.Core.Logic.{⊎-elim}
 use mathlib.Core.Bool.{Bool, true, false, _&&_}
 use mathlib.Core.List.{List, _∷_, map}
 use lib.Arith.{digits-div, digits-mod}
-use lib.Bits.{bitXor, xor-lt}
-use lib.Count.{ones}
+use lib.Bits.{bitXor}
 use lib.Dec.{eqb, ltb}
-use lib.ListN.{length, getD, List·getD-eq-default, length-map}
+use lib.ListN.{getD, List·getD-eq-default}
 use lib.Pow.{field, mod-mod-pow, pow-pos}
 use borrow.Author.Tests.{lt-ltb, le-ltb}
 use Rattle.base.specs.Tests.{below-or}
 use Rattle.base.specs.Places.{places, places-yes, places-no, places-agree, count, count-split}
 use Rattle.formula.specs.Passes.{Within}
 use Rattle.words.specs.Bit.{bit}
-use Rattle.words.specs.BitLaws.{bit-shift, bit-xor, ones-count}
+use Rattle.words.specs.BitLaws.{bit-shift, bit-xor}
 use Rattle.words.specs.Changed.{unlike}
 use Rattle.words.specs.Sets.{member}
 use Rattle.kept.specs.Tabulate.{tabulate, length-tabulate, tabulate-at}

@@ -1,25 +1,15 @@
 -- The turns and the end of the walk as a loop of steps.
 -- Assumes nothing.
-use Prim.Native.Nat.{ℕ, suc, _<_, _≤_, _+_, _-_}
-use native.Mathlib.Numerals.{add-one}
+use Prim.Native.Nat.{ℕ, suc, _≤_, _+_, _-_}
 use native.Mathlib.Nat.{add-zero, zero-add}
 use native.Mathlib.Omega.{arith}
 use mathlib.Core.Path.{_≡_, refl, ap, sym, _∙_}
-use mathlib.Core.Bool.{Bool, cond}
-use mathlib.Core.List.{List, [], _∷_}
-use mathlib.Core.Option.{some, none}
-use lib.Dec.{ltb}
-use lib.ListN.{length, getD}
-use lib.Seq.{drop-cons}
+use lib.ListN.{length}
 use Rattle.theory.specs.declared.Refusal.the-variants.{BadEntry}
-use Rattle.readers.specs.Reader.{readingOf}
-use Rattle.readers.specs.Laid.{part}
-use Rattle.kept.specs.CountedSet.{andThen}
 use Rattle.kept.specs.Tables.{Tables, nodeCount}
 use Rattle.kept.specs.Evaluation.{Evaluation}
 use Rattle.kept.specs.Verdict.{verdictOf}
-use Rattle.kept.specs.Step.{entered, readerUpdated, readersUpdated, idle, took, fault, step}
-use Rattle.kept.specs.Start.{allEntered}
+use Rattle.kept.specs.Step.{idle, took, fault, step}
 use Rattle.kept.specs.Walk.{Walked, ended, broken, after, walk}
 use Rattle.kept.specs.Check.{Result, refused, concluded, keptResult}
 use Rattle.kept_laws.specs.WalkEnds.{walk-on}

@@ -9,7 +9,7 @@ use Rattle.kept.specs.SetOf.{words32}
 use Rattle.kept.specs.Tables.{Tables, atomCount, nodeCount, rootCount}
 use Rattle.kept.specs.Evaluation.{Evaluation}
 use Rattle.kept.specs.Parts.{withTruths, withWorklist, withSupport, withCandidate, withFalseRoots}
-use Rattle.kept.specs.Layout.{flat, image, section, ofWords, written, truthsStart, worklistStart, supportStart, candidateStart, missingStart, falseRootsStart, used}
+use Rattle.kept.specs.Layout.{image, section, ofWords, written, truthsStart, worklistStart, supportStart, candidateStart, missingStart, falseRootsStart, used}
 use Rattle.kept.specs.LayoutLaws.{Fits, section-rest, of-image, written-image, behind-image, length-image, image-of, length-unused, fits-of}
 use Rattle.kept_laws.specs.Stores as stores
 use Rattle.kept_laws.specs.Stores.{withMembers, withSize}

@@ -1,7 +1,6 @@
 -- What a call leaves in the lent words of a kept evaluation: the evaluation that a definition gives, or after a 17 anything in the used words.
 -- Assumes nothing.
 use Prim.Native.Nat.{ℕ, _≤_}
-use native.Mathlib.Omega.{arith}
 use mathlib.Core.Path.{_≡_, refl, ap, sym, _∙_}
 use mathlib.Core.Bool.{Bool, true, false, true≢false}
 use mathlib.Core.List.{List}
@@ -10,7 +9,7 @@ use lib.ListN.{length, drop}
 use Rattle.kept.specs.Tables.{Tables}
 use Rattle.kept.specs.Evaluation.{Evaluation}
 use Rattle.kept.specs.Layout.{ofWords, written, used}
-use Rattle.kept.specs.LayoutLaws.{Fits, fits-of}
+use Rattle.kept.specs.LayoutLaws.{Fits}
 use Rattle.kept_laws.specs.Written.{written-same, of-written, written-again, written-behind, length-written}
 
 -- as long, and the same behind the used words

@@ -1,6 +1,6 @@
 -- Refusal 9: the lowest lent buffer that is shorter than listed. 1 nodes, 2 operands, 3 roots, 4 producers, 5 ranks, 6 readers, 8 work area.
 -- Assumes nothing.
-use Prim.Native.Nat.{ℕ, _+_, _*_, _<_, _≤_}
+use Prim.Native.Nat.{ℕ, _+_, _*_, _≤_}
 use mathlib.Core.Path.{_≡_}
 use mathlib.Core.Bool.{cond}
 use lib.Dec.{ltb}

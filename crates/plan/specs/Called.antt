@@ -1,20 +1,19 @@
 -- The public calls: from the buffers as lent to an entered theory.
 -- Assumes nothing.
-use Prim.Native.Nat.{ℕ, _+_, _*_, _<_, _≤_}
+use Prim.Native.Nat.{ℕ}
 use native.Mathlib.Omega.{arith}
 use mathlib.Core.Path.{_≡_, refl, ap, sym, _∙_}
 use mathlib.Core.Bool.{Bool, true, false, cond, _&&_}
 use mathlib.Core.List.{List}
 use lib.Dec.{eqb}
-use lib.ListN.{length, getD, take, replicate, length-replicate, getD-replicate, List·getD-eq-default}
+use lib.ListN.{length, take, replicate, length-replicate, getD-replicate, List·getD-eq-default}
 use lib.Seq.{take-all}
 use borrow.Author.Tests.{eqb-true}
 use mathlib.Core.Logic.{⊎-elim}
 use Rattle.base.specs.Tests.{both-left, below-or}
-use Rattle.theory.specs.Admission.{orElse, admission, allBelow, spanStart}
-use Rattle.theory.specs.Limits.{limitsOf, Limited}
+use Rattle.theory.specs.Admission.{orElse, admission, allBelow}
+use Rattle.theory.specs.Limits.{limitsOf}
 use Rattle.theory.specs.Refusals.{not-both, or-else-left, or-else-right}
-use Rattle.theory.specs.WellFormed.{NodeTables, RootTable, WellFormed}
 use Rattle.theory.proofs.Admitted.{admitted-formed, starts-within}
 use Rattle.theory.specs.declared.Counts.{Counts}
 use Rattle.theory.specs.declared.Refusal.{Refusal}
@@ -25,14 +24,12 @@ use Rattle.compile.specs.ClassWord.{classWords}
 use Rattle.compile.specs.Producers.{rootsSupported}
 use Rattle.ranks.specs.RankCheck.{rankOrder, rankCheck}
 use Rattle.theory.specs.LimitsLaws.{within-limits}
-use Rattle.plan.specs.Buffers.{shortBuffer, LongEnough, long-enough}
+use Rattle.plan.specs.Buffers.{shortBuffer, long-enough}
 use Rattle.plan.specs.Judged.{judged, derived, acyclic, planJudged, certifyJudged}
-use Rattle.plan.specs.Outcome.{Outcome, outcome, zeroed, planned, ranksOf, lengths, planOutcome, certifyOutcome}
+use Rattle.plan.specs.Outcome.{Outcome, outcome, planned, lengths, planOutcome, certifyOutcome}
 use Rattle.plan.specs.JudgedIn.{Zero}
 use Rattle.plan.specs.Finished.{Entered, rankedBy, derivedRanks, acceptedBy}
-use Rattle.plan.specs.declared.Lengths.{Lengths}
-use Rattle.plan.specs.declared.Planning.{Planning}
-use Rattle.plan.specs.declared.Planning.the-variants.{Planned, Refused}
+use Rattle.plan.specs.declared.Planning.the-variants.{Refused}
 
 or-else-assoc : (a b c : Admission) → orElse (orElse a b) c ≡ orElse a (orElse b c)
 or-else-assoc admitted.Admitted b c = refl

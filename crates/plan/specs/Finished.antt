@@ -1,10 +1,10 @@
 -- A planning call once its theory is entered: what it asks, and what it leaves.
 -- Assumes nothing.
-use Prim.Native.Nat.{ℕ, _+_, _*_, _-_, _<_, _≤_}
+use Prim.Native.Nat.{ℕ, _+_, _*_, _-_, _≤_}
 use native.Mathlib.Omega.{arith}
 use mathlib.Core.Path.{_≡_, refl, ap, sym, _∙_}
 use mathlib.Core.List.{List, _++_}
-use lib.ListN.{length, getD, take, drop, replicate, length-drop}
+use lib.ListN.{length, take, drop, replicate, length-drop}
 use lib.Seq.{getD-drop, take-take, drop-drop, length-take-le}
 use Rattle.base.specs.Front.{front}
 use Rattle.theory.specs.Admission.{orElse, spanStart}
@@ -24,9 +24,8 @@ use Rattle.dependency.specs.Laying.{Ready}
 use Rattle.dependency.specs.LayingLaws.{tail-long, tail-back}
 use Rattle.plan.specs.Buffers.{readersLength, workLength}
 use Rattle.plan.specs.Judged.{derived, acyclic}
-use Rattle.plan.specs.Outcome.{outcome, zeroed, producersOf, planned, ranksOf}
-use Rattle.plan.specs.JudgedIn.{Zero, DerivedIn, ProposedIn}
-use Rattle.plan.specs.declared.Planning.{Planning}
+use Rattle.plan.specs.Outcome.{outcome, planned, ranksOf}
+use Rattle.plan.specs.JudgedIn.{Zero}
 use Rattle.plan.specs.declared.Planning.the-variants.{Planned, Refused}
 
 -- what `finish` leaves

@@ -1,12 +1,12 @@
 -- What judging in the work area answers, and what then stands there.
 -- Assumes nothing.
-use Prim.Native.Nat.{ℕ, _+_, _*_, _<_, _≤_}
+use Prim.Native.Nat.{ℕ, _+_, _*_}
 use native.Mathlib.Omega.{arith}
-use mathlib.Core.Path.{_≡_, refl, ap, sym, _∙_}
+use mathlib.Core.Path.{_≡_, sym, _∙_}
 use mathlib.Core.List.{List, _++_}
-use lib.ListN.{length, getD, take, drop, length-append, length-drop}
+use lib.ListN.{getD, take, drop, length-append, length-drop}
 use lib.Seq.{getD-drop}
-use Rattle.graph.specs.Derive.{Derived, ranks, cycle, derive}
+use Rattle.graph.specs.Derive.{ranks, cycle, derive}
 use Rattle.theory.specs.Admission.{orElse}
 use Rattle.theory.specs.Refusals.{not-both}
 use Rattle.theory.specs.declared.Counts.{Counts}
@@ -22,7 +22,7 @@ use Rattle.kahn.specs.declared.Derivation.{Derivation}
 use Rattle.kahn.specs.declared.Derivation.the-variants.{Ranks, Cycle}
 use Rattle.ranks.specs.Dependency.{dependencies}
 use Rattle.ranks.specs.RankCheck.{rankCheck}
-use Rattle.dependency.specs.Laying.{Ready, Empty, most}
+use Rattle.dependency.specs.Laying.{Ready, Empty}
 use Rattle.plan.specs.Judged.{derived, acyclic}
 use Rattle.plan.specs.Outcome.{ranksOf}
 use Rattle.plan.specs.Prepared.{prepared-front, prepared-back, length-class-words}

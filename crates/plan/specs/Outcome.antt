@@ -1,6 +1,6 @@
 -- The whole outcome of a planning call: its answer and every word of buffers 4, 5, 6 and 8.
 -- Assumes nothing.
-use Prim.Native.Nat.{ℕ, _+_}
+use Prim.Native.Nat.{ℕ}
 use mathlib.Core.List.{List, []}
 use lib.ListN.{length, replicate}
 use Rattle.base.specs.Front.{front}

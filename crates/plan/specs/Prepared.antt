@@ -1,11 +1,10 @@
 -- The work area once the class words stand at its front.
 -- Assumes nothing.
-use Prim.Native.Nat.{ℕ, _+_, _*_, _<_, _≤_}
-use native.Mathlib.Omega.{arith}
-use mathlib.Core.Path.{_≡_, refl, ap, sym, _∙_}
+use Prim.Native.Nat.{ℕ, _+_}
+use mathlib.Core.Path.{_≡_, ap, _∙_}
 use mathlib.Core.List.{List, _++_}
-use lib.ListN.{length, getD, take, drop, replicate, getD-replicate, List·getD-append}
-use lib.Seq.{take-at, drop-at, getD-drop}
+use lib.ListN.{length, getD, take, drop}
+use lib.Seq.{take-at, drop-at}
 use Rattle.base.specs.Rising.{length-rising}
 use Rattle.theory.specs.declared.Counts.{Counts}
 use Rattle.compile.specs.ClassWord.{classWords, class-words-rise}

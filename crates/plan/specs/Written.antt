@@ -2,9 +2,9 @@
 -- Assumes nothing.
 use Prim.Native.Nat.{ℕ, zero, suc, _+_, _*_, _<_, _≤_}
 use native.Mathlib.Omega.{arith}
-use mathlib.Core.Path.{_≡_, refl, ap, sym, _∙_}
+use mathlib.Core.Path.{_≡_, refl}
 use mathlib.Core.List.{List, [], _∷_, _++_}
-use lib.ListN.{length, getD, take, drop, length-take}
+use lib.ListN.{length, getD, take}
 use lib.Seq.{getD-take, length-take-le}
 use Rattle.base.specs.Each.{Each, at-each, each-append}
 use Rattle.base.specs.Front.{front}
@@ -13,7 +13,7 @@ use Rattle.theory.specs.Limits.{Limited}
 use Rattle.theory.specs.declared.Counts.{Counts}
 use Rattle.compile.specs.Producer.{produced}
 use Rattle.compile.specs.Producers.{madeBy, producers, producerWords}
-use Rattle.compile.specs.ProducersLaws.{producersBefore, few-producers, length-words}
+use Rattle.compile.specs.ProducersLaws.{producersBefore, few-producers}
 use Rattle.compile.specs.declared.Producer.{Producer}
 use Rattle.compile.specs.declared.Produced.{Produced}
 use Rattle.compile.specs.declared.Produced.the-variants.{Nothing, Made, Refused}

@@ -1,7 +1,7 @@
 // The planner's public calls: everything is judged in the work area alone, then buffers 4, 5 and 6 are written.
 ghost use mathlib.Core.Path.{_≡_};
-ghost use Prim.Native.Nat.{ℕ, _+_, _*_, _<_, _≤_};
-ghost use lib.ListN.{length, replicate, getD, take, drop};
+ghost use Prim.Native.Nat.{_+_, _*_, _<_, _≤_};
+ghost use lib.ListN.{length, take, drop};
 ghost use mathlib.Core.List.{_++_};
 ghost use Rattle.base.specs.Front.{front};
 ghost use Rattle.theory.specs.Limits.{limitsOf, Limited};

@@ -3,44 +3,37 @@
 use Prim.Native.Nat.{ℕ, zero, suc, _+_, _-_, _<_, _≤_, max}
 use native.Mathlib.Nat.{add-sub-cancel-left}
 use native.Mathlib.Omega.{arith}
-use mathlib.Core.Path.{_≡_, refl, sym, ap, ap₂, _∙_}
-use mathlib.Core.Bool.{Bool, true, false, not, cond, _&&_, false≢true}
+use mathlib.Core.Path.{_≡_, refl, sym, ap, _∙_}
+use mathlib.Core.Bool.{Bool, true, false, cond, false≢true}
 use mathlib.Core.List.{List, [], _∷_, map}
 use lib.Dec.{eqb, ltb}
-use lib.ListN.{length, getD, List·getD-map}
-use borrow.Author.Tests.{ltb-true, ltb-false, lt-ltb, le-ltb}
-use Rattle.base.specs.Tests.{both}
+use lib.ListN.{getD, List·getD-map}
+use borrow.Author.Tests.{lt-ltb, le-ltb}
 use Rattle.base.specs.Each.{Each, each-map, each-both}
-use Rattle.graph.specs.Edge.{Edge, edge, one, cost}
+use Rattle.graph.specs.Edge.{Edge, edge, cost}
 use Rattle.graph.specs.Accepts.{Accepts}
 use Rattle.formula.specs.Formula.{Formula}
-use Rattle.formula.specs.Class.{Class, positive, frozen, opaque, class}
+use Rattle.formula.specs.Class.{positive, frozen, class}
 use Rattle.formula.specs.Rank.{isPositive, highest}
 use Rattle.theory.specs.Node.{nodeAt, span}
 use Rattle.theory.specs.NodeClass.{nodeClass, nodeClasses}
-use Rattle.theory.specs.NodeRank.{greatest, nodeHighest, nodeHighests}
+use Rattle.theory.specs.NodeRank.{greatest, nodeHighest}
 use Rattle.theory.specs.NodeFormula.{formula}
-use Rattle.theory.specs.WellFormed.{NodeFormed, NodeTables, WellFormed}
-use Rattle.theory.specs.Refusals.{not-both}
-use Rattle.theory.proofs.Meaning.{class-at, class-step, highest-at, highest-step}
+use Rattle.theory.specs.WellFormed.{NodeTables, WellFormed}
+use Rattle.theory.proofs.Meaning.{class-at, class-step, highest-step}
 use Rattle.theory.specs.declared.Counts.{Counts}
 use Rattle.theory.specs.declared.Node.{Node}
 use Rattle.theory.specs.declared.Node.the-variants.{Atom, False, Implies, And, Or, Unknown}
-use Rattle.theory.specs.declared.Admission.{Admission}
 use Rattle.theory.specs.declared.Admission.the-variants as admission
-use Rattle.theory.specs.declared.Refusal.the-variants.{RankShape, RankOrder}
 use Rattle.compile.specs.ClassWord.{classWord, classWords}
 use Rattle.compile.specs.Producer.{produced}
 use Rattle.compile.specs.declared.Producer.{Producer}
-use Rattle.compile.specs.declared.Produced.{Produced}
-use Rattle.compile.specs.declared.Produced.the-variants.{Nothing, Made, Refused}
-use Rattle.compile.proofs.RootFormula.{Bounded, producer-bounded}
+use Rattle.compile.proofs.RootFormula.{producer-bounded}
 use Rattle.ranks.specs.Dependency as dependency
 use Rattle.ranks.specs.Dependency.{dependencies}
 use Rattle.ranks.specs.Classed.{Classed}
 use Rattle.ranks.specs.Highest.{word-positive}
-use Rattle.ranks.specs.RankCheck.{bodyOrder, producedOrder, orderAt}
-use Rattle.ranks.proofs.Edges.{Group, of-and, of-or, Rule, IntoNode, dependencies-each, each-into, each-rule}
+use Rattle.ranks.proofs.Edges.{Group, of-and, of-or, Rule, IntoNode, dependencies-each, each-into}
 
 -- the greatest of some values is a bound of each, and below every bound
 greatest-each : (h : ℕ → ℕ) (os : List ℕ) → Each (λ o. h o ≤ greatest (map h os)) os

@@ -1,16 +1,15 @@
 -- What holds of every dependency: a law for each kind of edge gives it for all.
 -- Assumes nothing.
-use Prim.Native.Nat.{ℕ, zero, suc, _+_, _<_, _≤_}
+use Prim.Native.Nat.{ℕ, zero, suc, _+_, _<_}
 use native.Mathlib.Omega.{arith}
-use mathlib.Core.Path.{_≡_, refl, sym, ap, _∙_}
+use mathlib.Core.Path.{_≡_, refl}
 use mathlib.Core.Bool.{Bool, true, false, cond}
-use mathlib.Core.List.{List, [], _∷_, _++_}
+use mathlib.Core.List.{List, [], _∷_}
 use lib.ListN.{getD}
 use Rattle.base.specs.Each.{Each, each-append, each-left, each-right}
 use Rattle.base.specs.Gather.{gather, each-gather, gather-each}
 use Rattle.graph.specs.Edge.{Edge, edge}
 use Rattle.theory.specs.Node.{nodeAt, span}
-use Rattle.theory.specs.WellFormed.{NodeFormed, NodesFormed, RootTable}
 use Rattle.theory.specs.declared.Counts.{Counts}
 use Rattle.theory.specs.declared.Node.{Node}
 use Rattle.theory.specs.declared.Node.the-variants.{Atom, False, Implies, And, Or, Unknown}

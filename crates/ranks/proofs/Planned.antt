@@ -1,28 +1,26 @@
 -- Supported roots and accepted ranks make a plan in the papers' sense, and its theory is that of the tables.
 -- Assumes nothing.
-use Prim.Native.Nat.{ℕ, zero, suc, _+_, _<_, _≤_}
+use Prim.Native.Nat.{ℕ, _<_}
 use native.Mathlib.Numerals.{add-one}
 use native.Mathlib.Omega.{arith}
 use mathlib.Core.Path.{_≡_, refl, sym, ap, ap₂, _∙_}
 use mathlib.Core.Logic.{_≢_}
-use mathlib.Core.Bool.{Bool, true, false}
+use mathlib.Core.Bool.{true}
 use mathlib.Core.List.{List, [], _∷_, map}
-use lib.ListN.{length, getD, take, List·getD-map}
+use lib.ListN.{getD, take, List·getD-map}
 use lib.Seq.{getD-take, length-take-le}
-use Rattle.base.specs.Each.{Each, at-each, each-at}
-use Rattle.formula.specs.Formula.{Formula, Formulas, nil, cons, ofList}
+use Rattle.base.specs.Each.{Each, at-each}
+use Rattle.formula.specs.Formula.{Formula, cons, ofList}
 use Rattle.formula.specs.Class.{Class, positive, frozen, opaque, class}
-use Rattle.formula.specs.Rank.{isPositive, highest}
-use Rattle.formula.specs.Head.{Head, headAtom}
-use Rattle.formula.specs.Root.{Root, constraint, denial, fact, rule, rootFormula, theory}
-use Rattle.formula.specs.Plan.{PlannedRule, PlannedRoot, Planned}
+use Rattle.formula.specs.Rank.{isPositive}
+use Rattle.formula.specs.Root.{Root, rootFormula, theory}
+use Rattle.formula.specs.Plan.{PlannedRoot, Planned}
 use Rattle.theory.specs.NodeClass.{nodeClasses}
 use Rattle.theory.specs.NodeFormula.{formula, rootFormulas}
 use Rattle.theory.specs.WellFormed.{NodeTables, RootTable, WellFormed}
 use Rattle.theory.specs.Refusals.{not-both, none-refused}
 use Rattle.theory.proofs.Meaning.{class-at}
 use Rattle.theory.specs.declared.Counts.{Counts}
-use Rattle.theory.specs.declared.Refusal.{Refusal}
 use Rattle.theory.specs.declared.Admission.the-variants as admission
 use Rattle.compile.specs.ClassWord.{classWord, classWords}
 use Rattle.compile.specs.Producer.{produced}
@@ -35,7 +33,6 @@ use Rattle.compile.proofs.RootFormula.{producer-bounded, root-formula}
 use Rattle.ranks.specs.Dependency as dependency
 use Rattle.ranks.specs.Classed.{Classed}
 use Rattle.ranks.specs.RankCheck.{rankCheck}
-use Rattle.ranks.proofs.Edges.{Rule}
 use Rattle.ranks.proofs.Accepted.{positive-is}
 use Rattle.ranks.proofs.Ranks.{rule-ordered}
 

@@ -2,30 +2,29 @@
 -- Assumes nothing.
 use Prim.Native.Nat.{ℕ, zero, suc, _+_, _<_, _≤_}
 use native.Mathlib.Omega.{arith}
-use mathlib.Core.Path.{_≡_, refl, sym, ap, _∙_}
+use mathlib.Core.Path.{_≡_, refl, sym, _∙_}
 use mathlib.Core.Logic.{_↔_, _≢_, _⊎_, inl, inr, ⊎-elim}
 use mathlib.Core.Bool.{Bool, true, false, not, cond, _&&_, false≢true}
-use mathlib.Core.List.{List, [], _∷_, _++_, map, List·Memᴰ, List·Memᴰ·head, List·Memᴰ·tail, Memᴰ·append-left, Memᴰ·append-right}
+use mathlib.Core.List.{List, [], _∷_, map, List·Memᴰ, List·Memᴰ·head, List·Memᴰ·tail, Memᴰ·append-left, Memᴰ·append-right}
 use lib.Dec.{eqb, ltb}
-use lib.ListN.{length, getD, take}
-use borrow.Author.Tests.{eqb-true, eq-eqb, ltb-true, lt-ltb, le-ltb, not-true, not-false}
-use Rattle.base.specs.Tests.{both, both-left, both-right, equal-or}
-use Rattle.base.specs.Each.{Each, each-at, at-each, each-map}
+use lib.ListN.{length, getD}
+use borrow.Author.Tests.{eqb-true, eq-eqb, ltb-true, lt-ltb}
+use Rattle.base.specs.Tests.{both-left, both-right, equal-or}
+use Rattle.base.specs.Each.{Each, at-each, each-map}
 use Rattle.base.specs.Gather.{gather}
-use Rattle.graph.specs.Edge.{Edge, edge, one, cost, Rises}
+use Rattle.graph.specs.Edge.{Edge, edge, cost, Rises}
 use Rattle.graph.specs.Accepts.{Accepts}
 use Rattle.graph.specs.Derive.{Derived, ranks, cycle, derive}
 use Rattle.graph.specs.Right.{Least, Stuck}
 use Rattle.graph.specs.Grounded.{Grounded}
 use Rattle.graph.proofs.Ranks as graph
-use Rattle.formula.specs.Formula.{Formula}
 use Rattle.formula.specs.Class.{Class, positive, frozen, opaque, class, join}
 use Rattle.formula.specs.Rank.{isPositive, highest}
 use Rattle.theory.specs.Node.{nodeAt, span}
 use Rattle.theory.specs.NodeClass.{isFalse, joined, nodeClass}
 use Rattle.theory.specs.NodeFormula.{formula}
 use Rattle.theory.specs.NodeRank.{nodeHighests}
-use Rattle.theory.specs.Admission.{allBelow, firstRefusal}
+use Rattle.theory.specs.Admission.{allBelow}
 use Rattle.theory.specs.WellFormed.{NodeFormed, NodeTables, WellFormed}
 use Rattle.theory.specs.Spans.{all-below-each, each-all-below}
 use Rattle.theory.specs.Refusals.{not-both, none-refused, all-admitted}
@@ -33,7 +32,6 @@ use Rattle.theory.proofs.Meaning.{class-step, highest-at}
 use Rattle.theory.specs.declared.Counts.{Counts}
 use Rattle.theory.specs.declared.Node.{Node}
 use Rattle.theory.specs.declared.Node.the-variants.{Atom, False, Implies, And, Or, Unknown}
-use Rattle.theory.specs.declared.Admission.{Admission}
 use Rattle.theory.specs.declared.Admission.the-variants as admission
 use Rattle.theory.specs.declared.Refusal.the-variants.{RankShape, RankOrder}
 use Rattle.compile.specs.Producer.{produced}
@@ -45,7 +43,7 @@ use Rattle.ranks.specs.Dependency as dependency
 use Rattle.ranks.specs.Dependency.{only, operandEdges, nodeEdges, edgesInto, edgesOf, dependencies}
 use Rattle.ranks.specs.Classed.{Classed}
 use Rattle.ranks.specs.RankCheck.{bodyOrder, producedOrder, orderAt, orderBy, rankOrder, rankCheck}
-use Rattle.ranks.proofs.Edges.{Group, of-and, of-or, Rule, IntoNode, dependencies-each, each-rule}
+use Rattle.ranks.proofs.Edges.{Group, of-and, of-or, Rule, dependencies-each, each-rule}
 use Rattle.ranks.proofs.Accepted.{positive-is, vertex, vertex-atom, order-accepts, high-below}
 
 graph-strict : {A : ℕ} (s a : ℕ) → a < A → cost A (edge s a) ≡ 1

@@ -1,9 +1,9 @@
 -- The highest rank of a node, from its class word and those of lower nodes, and what a loop that fills a table with them keeps.
 -- Assumes nothing.
-use Prim.Native.Nat.{ℕ, _+_, _-_, _<_, _≤_}
+use Prim.Native.Nat.{ℕ, _+_, _-_, _<_}
 use native.Mathlib.Omega.{arith}
 use mathlib.Core.Path.{_≡_, refl, sym, ap, _∙_}
-use mathlib.Core.Bool.{Bool, true, false, cond}
+use mathlib.Core.Bool.{Bool, cond}
 use mathlib.Core.List.{List, map, _++_}
 use lib.Dec.{eqb}
 use lib.ListN.{length, getD, set, take, drop, length-drop, List·getD-map}

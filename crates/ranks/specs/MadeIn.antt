@@ -1,15 +1,14 @@
 -- A producer whose head is an atom of the theory, and whose body is one of its nodes.
 -- Assumes nothing.
 use Prim.Native.Nat.{ℕ, _<_, _≤_}
-use mathlib.Core.Path.{_≡_, refl, sym, _∙_}
+use mathlib.Core.Path.{_≡_, sym}
 use mathlib.Core.List.{List}
 use Rattle.theory.specs.WellFormed.{NodeTables}
 use Rattle.theory.specs.declared.Counts.{Counts}
 use Rattle.compile.specs.Producer.{produced}
-use Rattle.compile.specs.declared.Producer.{Producer}
 use Rattle.compile.specs.declared.Produced.{Produced}
 use Rattle.compile.specs.declared.Produced.the-variants.{Nothing, Made, Refused}
-use Rattle.compile.proofs.RootFormula.{Bounded, producer-bounded}
+use Rattle.compile.proofs.RootFormula.{producer-bounded}
 
 abbrev pub MadeIn : Counts → Produced → Type 0
 MadeIn t Nothing = Unit {0}

@@ -1,12 +1,11 @@
 // Ranks: the rank check, the dependencies of a theory, and the derivation. A port of the second half of tight/compile.rs.
 ghost use mathlib.Core.Path.{_≡_};
 ghost use mathlib.Core.List.{_++_};
-ghost use Prim.Native.Nat.{ℕ, _+_, _*_, _<_, _≤_};
+ghost use Prim.Native.Nat.{_+_, _<_, _≤_};
 ghost use lib.Dec.{eqb};
 ghost use lib.ListN.{length, getD, take, drop};
 ghost use Rattle.theory.specs.Node.{nodeAt};
 ghost use Rattle.theory.specs.NodeRank.{nodeHighests};
-ghost use Rattle.theory.specs.Limits.{Limited};
 ghost use Rattle.theory.specs.WellFormed.{NodeTables, RootTable};
 ghost use Rattle.ranks.specs.Highest.{highestBy};
 ghost use Rattle.ranks.specs.RankCheck.{bodyOrder, producedOrder, orderBy, rankCheck};

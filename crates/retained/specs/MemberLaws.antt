@@ -13,7 +13,6 @@ use Rattle.words.specs.Bit.{bit}
 use Rattle.words.specs.BitLaws.{one-shift}
 use Rattle.words.specs.Changed.{unlike}
 use Rattle.words.specs.Sets.{member, inserted, removed}
-use Rattle.kept.specs.SetOf.{words32}
 use Rattle.kept.specs.CountedSet.{andThen, CountedSet, moved, withBit, withMember}
 use Rattle.kept.specs.CountedSetLaws.{unlike-same}
 use Rattle.kept.specs.Tables.{Tables, atomCount, nodeCount, rootCount}
@@ -24,7 +23,7 @@ use Rattle.kept.specs.Layout.{ofWords, written, worklistStart, missingStart, fa
 use Rattle.kept.specs.LayoutLaws.{Fits, fits-of}
 use Rattle.kept_laws.specs.Stores.{withMembers}
 use Rattle.kept_laws.specs.Exits.{moved-up, moved-full, moved-down, moved-empty}
-use Rattle.kept_laws.specs.FitsLaws.{worklist-fits, support-fits, roots-fit}
+use Rattle.kept_laws.specs.FitsLaws.{worklist-fits, roots-fit}
 use Rattle.kept_laws.specs.Halves.{half}
 use Rattle.kept_laws.specs.Written.{written-same, put-worklist, put-worklist-size, put-missing, put-missing-size, put-falseRoots, put-falseRoots-size, get-worklist, get-worklist-size, get-missing, get-missing-size, get-falseRoots, get-falseRoots-size}
 use Rattle.kept_laws.specs.Wrote.{Wrote, beside-same}

@@ -18,7 +18,7 @@ use Rattle.kept.specs.LayoutLaws.{Fits, fits-of}
 use Rattle.kept_laws.specs.OptionLaws.{some-is, then-some}
 use Rattle.kept_laws.specs.FitsLaws.{length-members}
 use Rattle.kept_laws.specs.Written.{of-written, length-written, put-candidate, get-support, get-candidate}
-use Rattle.kept_laws.specs.Wrote.{Beside, Wrote, wrote-some, wrote-none, wrote-true, wrote-false}
+use Rattle.kept_laws.specs.Wrote.{Wrote, wrote-some, wrote-none, wrote-true, wrote-false}
 use Rattle.retained.specs.Member.{digitPut, bitPut}
 use Rattle.retained.specs.Changes.{missingTurned, presenceTurned}
 

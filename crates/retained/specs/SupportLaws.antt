@@ -10,7 +10,7 @@ use mathlib.Core.Option.{Option, some, none}
 use lib.Dec.{eqb, ltb}
 use lib.ListN.{length, getD, set}
 use borrow.Author.Tests.{ltb-true}
-use Rattle.kept.specs.CountedSet.{andThen, CountedSet, moved, withMember}
+use Rattle.kept.specs.CountedSet.{moved}
 use Rattle.kept.specs.Tables.{Tables, atomCount}
 use Rattle.kept.specs.Evaluation.{Evaluation, present}
 use Rattle.kept.specs.Parts.{withSupport}

@@ -7,7 +7,6 @@ use lib.Dec.{ltb}
 use lib.ListN.{length, take, replicate}
 use Rattle.theory.specs.declared.Counts.{Counts}
 use Rattle.theory.specs.declared.Refusal.the-variants.{PastLimit, ShortBuffer}
-use Rattle.record.specs.Contents.{Contents}
 use Rattle.record.specs.File.{File, sound, refused, theoryFile}
 use Rattle.record.specs.declared.Summary.{Summary}
 use Rattle.load.specs.Candidate.{candidateWords}

@@ -19,7 +19,7 @@ use Rattle.theory.specs.declared.Counts.{Counts}
 use Rattle.theory.specs.declared.Admission.{Admission}
 use Rattle.theory.specs.declared.Admission.the-variants as admitted
 use Rattle.theory.proofs.Admitted.{admitted-formed}
-use Rattle.compile.specs.Producers.{rootsSupported, producers, producerWords}
+use Rattle.compile.specs.Producers.{rootsSupported, producerWords}
 use Rattle.compile.specs.ProducersLaws.{producersBefore, few-producers, length-words}
 use Rattle.compile.specs.declared.Producer.{Producer}
 use Rattle.ranks.specs.Classed.{Classed}
@@ -39,11 +39,11 @@ use Rattle.readers.proofs.Readers.{lists-laid}
 use Rattle.plan.specs.Buffers.{shortBuffer, LongEnough, long-enough}
 use Rattle.theory.specs.LimitsLaws.{within-limits}
 use Rattle.plan.specs.Judged.{classes, judged, derived, acyclic, planJudged, certifyJudged}
-use Rattle.plan.specs.Outcome.{Outcome, producersOf, planned, ranksOf, lengths, planOutcome, certifyOutcome}
+use Rattle.plan.specs.Outcome.{producersOf, planned, ranksOf, lengths, planOutcome, certifyOutcome}
 use Rattle.plan.specs.Written.{written-planned}
 use Rattle.plan.specs.declared.Lengths.{Lengths}
 use Rattle.plan.specs.declared.Planning.the-variants.{Planned, Refused}
-use Rattle.kept.specs.Tables.{Tables, between, listAt}
+use Rattle.kept.specs.Tables.{between, listAt}
 use Rattle.kept.specs.Planned.{PlannedTables}
 use Rattle.series.specs.Lent.{lent}
 

@@ -1,19 +1,17 @@
 -- What each branch of the tests gives, as code meets it.
 -- Assumes nothing.
-use Prim.Native.Nat.{ℕ, max, _+_, _*_, _/_, _^_, _<_, _≤_}
+use Prim.Native.Nat.{ℕ, _*_, _^_, _<_, _≤_}
 use native.Mathlib.Omega.{arith}
 use mathlib.Core.Path.{_≡_, refl, ap, sym, _∙_}
 use mathlib.Core.Bool.{Bool, true, false, cond, _&&_}
-use mathlib.Core.List.{List, [], _∷_, _++_}
-use lib.Dec.{eqb, ltb, leb}
-use lib.ListN.{length, getD, take, drop, set, replicate, length-replicate, replicate-append-replicate}
+use mathlib.Core.List.{List, [], _∷_}
+use lib.Dec.{eqb, ltb}
+use lib.ListN.{length, take}
 use lib.Seq.{length-take-le}
 use borrow.Author.Tests.{eq-eqb, ne-eqb, lt-ltb, le-ltb, ltb-false}
-use Rattle.base.specs.Front.{front, front-more}
-use Rattle.formula.specs.Satisfaction.{Interpretation}
 use Rattle.theory.specs.Admission.{orElse}
 use Rattle.theory.specs.Limits.{limitsOf, Limited}
-use Rattle.theory.specs.LimitsLaws.{passed, within-limits}
+use Rattle.theory.specs.LimitsLaws.{passed}
 use Rattle.theory.specs.declared.Counts.{Counts}
 use Rattle.theory.specs.declared.Admission.{Admission}
 use Rattle.theory.specs.declared.Admission.the-variants.{Admitted, Refused}
@@ -21,13 +19,10 @@ use Rattle.theory.specs.declared.Refusal.{Refusal}
 use Rattle.theory.specs.declared.Refusal.the-variants.{ShortBuffer, ForeignStamp, StrayBit}
 use Rattle.words.specs.Next.{next}
 use Rattle.kept.specs.Candidate.{Candidate}
-use Rattle.kept.specs.Check.{changes, isKept}
-use Rattle.kept.specs.Layout.{ofWords}
 use Rattle.kept.specs.SetOf.{words64}
 use Rattle.kept.specs.Tables.{Tables}
 use Rattle.kept.specs.Tests.{Buffer, buffer, buffers, firstShort, stamps, strayBit, tests}
 use Rattle.kept_laws.specs.Given.{sized}
-use Rattle.kept_laws.specs.Written.{get-state, get-stamp}
 use Rattle.tests.specs.Lent.{buffersBy, Sizes}
 use Rattle.tests.specs.declared.Lengths.{Lengths}
 

@@ -2,7 +2,7 @@
 -- Assumes nothing.
 use Prim.Native.Nat.{ℕ, zero, suc, _+_, _<_, _≤_}
 use native.Mathlib.Omega.{arith}
-use mathlib.Core.Path.{_≡_, refl, sym, _∙_}
+use mathlib.Core.Path.{_≡_, refl}
 use mathlib.Core.Logic.{_↔_}
 use mathlib.Core.Bool.{Bool, true, false, cond, _&&_}
 use mathlib.Core.List.{List}
@@ -12,7 +12,7 @@ use borrow.Author.Tests.{ltb-true, lt-ltb, eq-eqb, ne-eqb, le-leb}
 use Rattle.base.specs.Tests.{both-left, both-right}
 use Rattle.base.specs.Each.{Each}
 use Rattle.theory.specs.Node.{nodeAt, span, operandsOf}
-use Rattle.theory.specs.Admission.{allBelow, groupAdmission, nodeAdmission, rootAdmission, spanStart, spanEnd, nodesAdmission, rootsAdmission, admission}
+use Rattle.theory.specs.Admission.{groupAdmission, nodeAdmission, rootAdmission, spanStart, nodesAdmission, rootsAdmission, admission}
 use Rattle.theory.specs.WellFormed.{SpanFormed, NodeFormed, WellFormed}
 use Rattle.theory.specs.Spans.{all-below-each, each-all-below}
 use Rattle.theory.specs.Refusals.{not-both, or-else-left, or-else-right, none-refused, all-admitted, group-admitted, end-within}
@@ -20,7 +20,6 @@ use Rattle.theory.specs.declared.Counts.{Counts}
 use Rattle.theory.specs.declared.Node.{Node}
 use Rattle.theory.specs.declared.Node.the-variants.{Atom, False, Implies, And, Or, Unknown}
 use Rattle.theory.specs.declared.Refusal.{Refusal}
-use Rattle.theory.specs.declared.Admission.{Admission}
 use Rattle.theory.specs.declared.Admission.the-variants.{Admitted, Refused}
 
 passed : (b : Bool) (r : Refusal) → cond b Admitted (Refused r) ≡ Admitted → b ≡ true

@@ -1,20 +1,20 @@
 -- The truth, class and highest rank that a rising pass computes are those of the node's formula.
 -- Assumes nothing.
-use Prim.Native.Nat.{ℕ, zero, suc, _<_, _≤_}
+use Prim.Native.Nat.{ℕ, _<_, _≤_}
 use native.Mathlib.Omega.{arith}
 use mathlib.Core.Path.{_≡_, refl, ap, ap₂, sym, _∙_}
-use mathlib.Core.Bool.{Bool, true, false, cond}
+use mathlib.Core.Bool.{false}
 use mathlib.Core.List.{List, [], _∷_, map}
-use lib.ListN.{length, getD, List·getD-map}
-use Rattle.base.specs.Each.{Each, map-agree}
+use lib.ListN.{getD, List·getD-map}
+use Rattle.base.specs.Each.{map-agree}
 use Rattle.base.specs.Rising.{rising, rising-at, rising-stays, rising-step, rising-map}
-use Rattle.formula.specs.Formula.{Formula, Formulas, atom, falsum, implies, conj, disj, ofList}
+use Rattle.formula.specs.Formula.{Formula, falsum, implies, conj, disj, ofList}
 use Rattle.formula.specs.Satisfaction.{Interpretation, sat, all, any}
-use Rattle.formula.specs.Class.{Class, frozen, class, classes, isFalsum}
-use Rattle.formula.specs.Rank.{isPositive, highest, highests}
-use Rattle.theory.specs.Node.{nodeAt, span, operandsOf}
+use Rattle.formula.specs.Class.{frozen, class, classes, isFalsum}
+use Rattle.formula.specs.Rank.{highest, highests}
+use Rattle.theory.specs.Node.{nodeAt, span}
 use Rattle.theory.specs.Admission.{spanStart}
-use Rattle.theory.specs.WellFormed.{SpanFormed, NodeFormed, WellFormed}
+use Rattle.theory.specs.WellFormed.{NodeFormed, WellFormed}
 use Rattle.theory.specs.NodeFormula.{nodeFormula, nodeFormulas, formula}
 use Rattle.theory.specs.NodeTruth.{allTrue, anyTrue, nodeTruth, nodeTruths}
 use Rattle.theory.specs.NodeClass.{isFalse, joined, nodeClass, nodeClasses}

@@ -1,15 +1,14 @@
 -- What the view of a node in well-formed tables says of what it names.
 -- Assumes nothing.
-use Prim.Native.Nat.{ℕ, _+_, _*_, _<_, _≤_}
+use Prim.Native.Nat.{ℕ, _<_, _≤_}
 use native.Mathlib.Omega.{arith}
 use mathlib.Core.Path.{_≡_}
 use mathlib.Core.List.{List}
 use Rattle.theory.specs.Node.{nodeAt}
-use Rattle.theory.specs.WellFormed.{SpanFormed, NodesFormed, NodeTables}
+use Rattle.theory.specs.WellFormed.{SpanFormed, NodeTables}
 use Rattle.theory.specs.Admission.{spanStart}
 use Rattle.theory.specs.Spans.{Indexed, each-indexed}
 use Rattle.theory.specs.declared.Counts.{Counts}
-use Rattle.theory.specs.declared.Node.{Node}
 use Rattle.theory.specs.declared.Node.the-variants.{Atom, Implies, And, Or}
 
 module _ (t : Counts) (nodes operands : List ℕ) (tables : NodeTables t nodes operands) (k : ℕ) (l : k < t .nodes) where

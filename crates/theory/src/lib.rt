@@ -1,7 +1,7 @@
 // The theory: the view of a node in lent tables, the limits, and the admission of lent tables.
 ghost use mathlib.Core.Path.{_≡_};
-ghost use Prim.Native.Nat.{ℕ, _+_, _*_, _<_, _≤_};
-ghost use lib.ListN.{length, getD};
+ghost use Prim.Native.Nat.{_+_, _*_, _<_, _≤_};
+ghost use lib.ListN.{length};
 ghost use Rattle.theory.specs.Node.{nodeAt, Small, span};
 ghost use Rattle.theory.specs.Limits.{limitsOf, Limited, Lent};
 ghost use Rattle.theory.specs.Admission.{allBelow, groupAdmission, nodeAdmission, nodesAdmission, rootsAdmission, admission, spanEnd};

@@ -2,7 +2,6 @@
 ghost use mathlib.Core.Path.{_≡_};
 ghost use mathlib.Core.List.{[], _∷_};
 ghost use Prim.Native.Nat.{_≤_};
-ghost use lib.ListN.{length};
 ghost use Rattle.text.specs.Clip.{clip, Put};
 ghost use Rattle.plan.specs.Outcome.{planOutcome, certifyOutcome};
 ghost use Rattle.kept.specs.Outcome as checks;

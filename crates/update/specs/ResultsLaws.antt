@@ -1,8 +1,7 @@
 -- Results from the parts that calls answer and leave.
 -- Assumes nothing.
 use Prim.Native.Nat.{ℕ, _≤_}
-use native.Mathlib.Omega.{arith}
-use mathlib.Core.Path.{_≡_, refl, ap, sym, _∙_}
+use mathlib.Core.Path.{_≡_, refl, ap, _∙_}
 use mathlib.Core.List.{List}
 use mathlib.Core.Option.{Option, some, none}
 use lib.ListN.{length}
@@ -11,7 +10,7 @@ use Rattle.kept.specs.Tables.{Tables}
 use Rattle.kept.specs.Evaluation.{Evaluation}
 use Rattle.kept.specs.Verdict.{Verdict}
 use Rattle.kept.specs.Check.{Result, accepted, refused, concluded}
-use Rattle.kept.specs.Layout.{ofWords, written, used}
+use Rattle.kept.specs.Layout.{written, used}
 use Rattle.kept.specs.LayoutLaws.{Fits}
 use Rattle.kept_laws.specs.Written.{written-again}
 use Rattle.kept_laws.specs.Wrote.{Beside, beside-then, beside-written}

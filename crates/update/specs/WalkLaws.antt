@@ -20,7 +20,7 @@ use Rattle.kept.specs.Verdict.{verdictOf}
 use Rattle.kept.specs.Step.{Stepped, idle, took, fault, step}
 use Rattle.kept.specs.Start.{walkStart, lowestEntered}
 use Rattle.kept.specs.Walk.{broken, walk, walkFrom, keptWalk}
-use Rattle.kept.specs.Check.{Result, refused, concluded, keptResult}
+use Rattle.kept.specs.Check.{Result, concluded, keptResult}
 use Rattle.kept.specs.Layout.{section, ofWords, written, candidateStart, missingStart, used}
 use Rattle.kept.specs.LayoutLaws.{Fits, image-of, length-unused, fits-of}
 use Rattle.kept_laws.specs.Stores.{read-candidate}

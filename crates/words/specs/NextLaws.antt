@@ -10,7 +10,7 @@ use lib.ListN.{length, getD}
 use lib.Arith.{digits-div, digits-mod}
 use lib.Pow.{shr-lt}
 use lib.Count.{trailingZeros}
-use Rattle.base.specs.Places.{lowest, Lowest, lowest-is, lowest-only, lowest-skip}
+use Rattle.base.specs.Places.{Lowest, lowest-is, lowest-only, lowest-skip}
 use Rattle.words.specs.Bit.{bit}
 use Rattle.words.specs.Sets.{member}
 use Rattle.words.specs.Next.{next}

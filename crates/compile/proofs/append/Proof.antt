@@ -1,5 +1,4 @@
 use native.Mathlib.Omega.{arith}
-use mathlib.Core.Path.{_≡_, sym, _∙_}
 use Rattle.compile.specs.Producers.{madeBy}
 use Rattle.compile.specs.ProducersLaws.{appended}
 use borrow.Author.Needs.{needs}

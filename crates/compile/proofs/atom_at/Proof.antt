@@ -1,5 +1,5 @@
 use Rattle.compile.specs.Head.{foundOf}
-use mathlib.Core.Path.{_≡_, sym, _∙_}
+use mathlib.Core.Path.{sym, _∙_}
 use borrow.Author.Needs.{needs}
 use Rattle.compile.proofs.atom_at.Statement.{statement}
 use Rattle.compile.proofs.atom_at.Tie as tie

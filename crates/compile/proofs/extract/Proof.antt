@@ -2,12 +2,12 @@ use Rattle.compile.specs.ProducersLaws.{extract-count, extract-table}
 use Rattle.compile.proofs.RootFormula.{made-small}
 use borrow.Author.Needs.{needs}
 use native.Mathlib.Omega.{arith}
-use mathlib.Core.Path.{_≡_, sym, ap, _∙_}
-use Prim.Native.Nat.{_+_, _-_, _*_, _≤_}
+use mathlib.Core.Path.{_≡_, _∙_}
+use Prim.Native.Nat.{_-_, _≤_}
 use lib.ListN.{length}
-use Rattle.base.specs.Front.{front, front-none, length-of-front}
-use Rattle.compile.specs.Producers.{producerWords, madeBy}
-use Rattle.compile.specs.ProducersLaws.{producersBefore, producers-none, producers-more, appended-front, made-one}
+use Rattle.base.specs.Front.{front, front-none}
+use Rattle.compile.specs.Producers.{producerWords}
+use Rattle.compile.specs.ProducersLaws.{producersBefore, producers-none, made-one}
 use Rattle.compile.proofs.extract.Statement.{statement}
 use Rattle.compile.proofs.extract.Tie as tie
 use Rattle.compile.proofs.extract.Reads as reads

@@ -1,5 +1,5 @@
 use native.Mathlib.Omega.{arith}
-use mathlib.Core.Path.{_≡_, sym, ap, _∙_}
+use mathlib.Core.Path.{_∙_}
 use lib.ListN.{take}
 use Rattle.ranks.specs.Dependency.{dependencies}
 use Rattle.dependency.specs.LayingLaws.{ready-later, v-fits, sized, laid-part, ranks-part, tail-front}

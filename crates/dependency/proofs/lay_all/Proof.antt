@@ -1,5 +1,4 @@
 use borrow.Author.Tests.{not-true, not-false}
-use mathlib.Core.Path.{_≡_, sym, _∙_}
 use Rattle.dependency.specs.LayingLaws.{LayingAll, toLay, ready-later, laying-starts, laying-more, laying-less}
 use Rattle.dependency.proofs.lay_all.Statement.{statement}
 use Rattle.dependency.proofs.lay_all.Tie as tie

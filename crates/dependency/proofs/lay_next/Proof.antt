@@ -1,7 +1,7 @@
 use native.Mathlib.Omega.{arith}
-use mathlib.Core.Path.{_≡_, sym, ap, _∙_}
+use mathlib.Core.Path.{sym, ap, _∙_}
 use Prim.Native.Nat.{_-_}
-use lib.ListN.{length, take, drop}
+use lib.ListN.{length}
 use lib.Seq.{length-take-le}
 use Rattle.ranks.specs.Highest.{part-rest}
 use Rattle.dependency.specs.LayingLaws.{v-fits, lent, sized, has-room, few-degrees, laid-edge, laid-skip, laid-all, tail-front, tail-back, tail-long}

@@ -1,5 +1,5 @@
 use native.Mathlib.Omega.{arith}
-use mathlib.Core.Path.{_≡_, sym, _∙_}
+use mathlib.Core.Path.{sym, _∙_}
 use Rattle.theory.specs.Formed.{atom-below}
 use Rattle.dependency.specs.CursorLaws.{of-and, of-or, bare-false, bare-implies, bare-unknown, next-atom, next-bare}
 use borrow.Author.Needs.{needs}

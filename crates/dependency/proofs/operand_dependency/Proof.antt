@@ -1,5 +1,4 @@
 use native.Mathlib.Omega.{arith}
-use mathlib.Core.Path.{_≡_, sym, _∙_}
 use Prim.Native.Nat.{_+_, _<_}
 use Rattle.ranks.specs.Dependency.{only}
 use Rattle.dependency.specs.CursorLaws.{next-frozen, next-last, next-slot, grouped-indexed, class-yes, class-no}

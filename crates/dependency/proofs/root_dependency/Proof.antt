@@ -1,6 +1,6 @@
 use native.Mathlib.Omega.{arith}
-use mathlib.Core.Path.{_≡_, sym, _∙_}
-use Prim.Native.Nat.{_-_, _<_}
+use mathlib.Core.Path.{sym, _∙_}
+use Prim.Native.Nat.{_-_}
 use Rattle.ranks.specs.Dependency.{only}
 use Rattle.compile.proofs.RootFormula.{producer-bounded}
 use Rattle.dependency.specs.CursorLaws.{next-root, edges-nothing, edges-bare, edges-body, not-nothing, not-refused, class-yes, class-no}

@@ -1,5 +1,4 @@
 use native.Mathlib.Omega.{arith}
-use lib.ListN.{length}
 use Rattle.record.specs.File.{theoryFile}
 use Rattle.record.proofs.Judging.{contentsOf, sound-is, sound-limited}
 use Rattle.load.proofs.Outcomes.{short-nodes, short-operands, short-roots, all-stored}

@@ -1,6 +1,5 @@
 use native.Mathlib.Omega.{arith}
-use mathlib.Core.Path.{_≡_, sym, ap, _∙_}
-use Prim.Native.Nat.{_+_}
+use mathlib.Core.Path.{sym, ap, _∙_}
 use lib.ListN.{length}
 use Rattle.ranks.specs.Highest.{part-rest}
 use Rattle.plan.specs.Finished.{acceptedBy, planned-refused, planned-done, area-ready, last, last-long, classes-part, classes-long}

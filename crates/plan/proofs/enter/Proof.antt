@@ -1,5 +1,5 @@
 use native.Mathlib.Omega.{arith}
-use mathlib.Core.Path.{_≡_, sym, _∙_}
+use mathlib.Core.Path.{sym, _∙_}
 use Rattle.plan.specs.Buffers.{long-enough}
 use Rattle.theory.specs.LimitsLaws.{within-limits}
 use borrow.Author.Needs.{needs}

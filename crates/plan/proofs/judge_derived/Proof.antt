@@ -1,5 +1,3 @@
-use native.Mathlib.Omega.{arith}
-use mathlib.Core.Path.{_≡_, sym, _∙_}
 use Rattle.plan.specs.JudgedIn.{derived-unsupported, ready-after, empty-after, derived-ranks, derived-cycle}
 use borrow.Author.Needs.{needs}
 use Rattle.plan.proofs.judge_derived.Statement.{statement}

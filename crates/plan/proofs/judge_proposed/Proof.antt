@@ -1,6 +1,4 @@
 use native.Mathlib.Omega.{arith}
-use mathlib.Core.Path.{_≡_, sym, _∙_}
-use lib.ListN.{length-append, length-drop}
 use Rattle.plan.specs.Prepared.{prepared-classed}
 use Rattle.plan.specs.JudgedIn.{proposed-unsupported, ready-after, proposed-checked}
 use borrow.Author.Needs.{needs}

@@ -1,7 +1,6 @@
 use native.Mathlib.Omega.{arith}
-use mathlib.Core.Path.{_≡_, sym, ap, _∙_}
-use lib.ListN.{length, take}
-use lib.Seq.{length-take-le}
+use mathlib.Core.Path.{sym, ap, _∙_}
+use lib.ListN.{length}
 use Rattle.plan.specs.Prepared.{prepared-front, length-class-words}
 use borrow.Author.Needs.{needs}
 use Rattle.plan.proofs.prepare.Statement.{statement}

@@ -2,8 +2,8 @@ use borrow.Author.Needs.{needs}
 use native.Mathlib.Omega.{arith}
 use native.Mathlib.Nat.{sub-zero}
 use mathlib.Core.Path.{_≡_, sym, _∙_}
-use Prim.Native.Nat.{_+_, _-_, _≤_}
-use lib.ListN.{length, take, drop}
+use Prim.Native.Nat.{_-_, _≤_}
+use lib.ListN.{take, drop}
 use lib.Seq.{length-take-le}
 use Rattle.theory.specs.Admission.{firstRefusal}
 use Rattle.theory.specs.Refusals.{first-stop, first-go, first-done}

@@ -5,7 +5,7 @@ use Rattle.kept_laws.specs.Given.{supplied}
 use Rattle.kept.specs.CountedSet.{moved}
 use native.Mathlib.Omega.{arith}
 use mathlib.Core.Logic.{⊎-elim}
-use mathlib.Core.Path.{_≡_, ap, sym, _∙_}
+use mathlib.Core.Path.{ap, sym, _∙_}
 use borrow.Author.Needs.{needs}
 use Rattle.retained.proofs.support.Statement.{statement}
 use Rattle.retained.proofs.support.Tie as tie

@@ -1,4 +1,4 @@
-use mathlib.Core.Path.{_≡_, sym, _∙_}
+use mathlib.Core.Path.{sym, _∙_}
 use Rattle.theory.specs.Admission.{admission}
 use borrow.Author.Needs.{needs}
 use Rattle.theory.proofs.admit.Statement.{statement}

@@ -1,8 +1,8 @@
 use borrow.Author.Needs.{needs}
 use native.Mathlib.Omega.{arith}
 use native.Mathlib.Nat.{sub-zero}
-use mathlib.Core.Path.{_≡_, refl, sym, _∙_}
-use Prim.Native.Nat.{_+_, _-_, _≤_}
+use mathlib.Core.Path.{_≡_, sym, _∙_}
+use Prim.Native.Nat.{_-_, _≤_}
 use Rattle.theory.specs.Node.{nodeAt}
 use Rattle.theory.specs.Admission.{firstRefusal, nodeAdmission, nodesAdmission, spanStart}
 use Rattle.theory.specs.Refusals.{first-stop, first-go, first-done, start-none, start-more, node-seen, end-within}

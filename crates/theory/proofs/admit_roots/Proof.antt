@@ -1,9 +1,8 @@
 use borrow.Author.Needs.{needs}
 use borrow.Author.Tests.{lt-ltb, le-ltb}
-use native.Mathlib.Omega.{arith}
 use native.Mathlib.Nat.{sub-zero}
-use mathlib.Core.Path.{_≡_, refl, _∙_}
-use Prim.Native.Nat.{_+_, _-_, _≤_}
+use mathlib.Core.Path.{_≡_}
+use Prim.Native.Nat.{_-_, _≤_}
 use Rattle.theory.specs.Admission.{firstRefusal, rootAdmission, rootsAdmission}
 use Rattle.theory.specs.Refusals.{first-stop, first-go, first-done}
 use Rattle.theory.proofs.admit_roots.Statement.{statement}

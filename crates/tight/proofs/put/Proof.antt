@@ -1,7 +1,7 @@
 use Rattle.text.specs.ClipLaws.{put-byte, put-past}
 use lib.ListN.{length, length-set}
 use mathlib.Core.Logic.{⊎-elim}
-use mathlib.Core.Path.{_≡_, ap, _∙_}
+use mathlib.Core.Path.{ap, _∙_}
 use borrow.Author.Needs.{needs}
 use Rattle.tight.proofs.put.Statement.{statement}
 use Rattle.tight.proofs.put.Tie as tie

@@ -1,7 +1,6 @@
 use Rattle.text.specs.Clip.{clip}
 use mathlib.Core.Path.{ap, _∙_}
 use Rattle.tight.specs.NumbersLaws.{three-numbers, two-numbers}
-use native.Mathlib.Omega.{arith}
 use borrow.Author.Needs.{needs}
 use Rattle.tight.proofs.put_refusal.Statement.{statement}
 use Rattle.tight.proofs.put_refusal.Tie as tie

@@ -1,4 +1,3 @@
-use mathlib.Core.Path.{refl}
 use borrow.Author.Needs.{needs}
 use Rattle.update.proofs.told.Statement.{statement}
 use Rattle.update.proofs.told.Tie as tie

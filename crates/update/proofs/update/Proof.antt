@@ -4,7 +4,7 @@ use Rattle.update.specs.Results.{lent, anyTables}
 use Rattle.kept.specs.Layout.{ofWords}
 use Rattle.kept_laws.specs.StartChanged.{lowest-most}
 use Rattle.words.specs.Sets.{member}
-use mathlib.Core.Path.{_≡_, sym, _∙_}
+use mathlib.Core.Path.{sym, _∙_}
 use native.Mathlib.Omega.{arith}
 use borrow.Author.Needs.{needs}
 use Rattle.update.proofs.update.Statement.{statement}

@@ -4,7 +4,7 @@ use Rattle.update.specs.Results.{lent, anyTables}
 use Rattle.kept.specs.Layout.{ofWords}
 use Rattle.kept.specs.Tables.{Tables}
 use lib.ListN.{length}
-use mathlib.Core.Path.{_≡_, refl, _∙_}
+use mathlib.Core.Path.{_≡_, refl}
 use native.Mathlib.Omega.{arith}
 use Prim.Native.Nat.{_+_, _-_, _≤_}
 use Rattle.update.proofs.walk.Statement.{statement}
