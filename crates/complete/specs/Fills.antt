@@ -5,13 +5,9 @@ use native.Mathlib.Numerals.{add-one}
 use native.Mathlib.Omega.{arith}
 use mathlib.Core.Path.{_≡_, refl, ap, sym, _∙_}
 use mathlib.Core.List.{List, _∷_}
-use lib.ListN.{length, getD, set, take, drop, replicate, length-append, length-drop, List·getD-append}
+use lib.ListN.{length, getD, set, drop, replicate, length-append, length-drop, List·getD-append}
 use Rattle.kept.specs.Tabulate.{tabulate, tabulate-at, length-tabulate}
-use Rattle.kept.specs.Tables.{Tables}
-use Rattle.kept.specs.Layout.{section, ofWords, candidateStart, missingStart, used}
-use Rattle.kept.specs.LayoutLaws.{fits-of, length-unused, image-of}
 use Rattle.kept_laws.specs.Filling.{filled, filled-none, filled-all, filled-next}
-use Rattle.kept_laws.specs.Stores.{read-candidate}
 
 pub tabulate-zero : (n : ℕ) → tabulate {A = ℕ} n (λ a. 0) ≡ replicate n 0
 unfolding tabulate
@@ -35,9 +31,3 @@ module _ (f : ℕ → ℕ) (ds : List ℕ) where
 
   pub fill-done : (xs : List ℕ) (i : ℕ) → length ds ≤ i → i ≤ length ds → xs ≡ filled i f ds → xs ≡ tabulate (length ds) f
   fill-done xs i l m e = let p : i ≡ length ds = omega arith in e ∙ ap (λ n. filled n f ds) p ∙ filled-all (length ds) f ds refl
-
--- the candidate's section
-pub candidate-part : (T : Tables) (ws : List ℕ) → used T ≤ length ws → take (missingStart T - candidateStart T) (drop (candidateStart T) ws) ≡ ofWords T ws .candidate
-candidate-part T ws long =
-    ap (λ w. take (missingStart T - candidateStart T) (drop (candidateStart T) w)) (sym (image-of T ws long))
-    ∙ read-candidate T (ofWords T ws) (fits-of T ws long) (section T ws 1) (section T ws 8) (length-unused T ws long)

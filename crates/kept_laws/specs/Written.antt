@@ -1,10 +1,10 @@
 -- The lent words with an evaluation written into them: what a load gives, and what a store makes of it.
 -- Assumes nothing.
-use Prim.Native.Nat.{ℕ, _<_, _≤_, _+_}
+use Prim.Native.Nat.{ℕ, _<_, _≤_, _+_, _-_}
 use native.Mathlib.Omega.{arith}
 use mathlib.Core.Path.{_≡_, refl, ap, sym, _∙_}
 use mathlib.Core.List.{List}
-use lib.ListN.{length, getD, set, drop, length-drop}
+use lib.ListN.{length, getD, set, take, drop, length-drop}
 use Rattle.kept.specs.SetOf.{words32}
 use Rattle.kept.specs.Tables.{Tables, atomCount, nodeCount, rootCount}
 use Rattle.kept.specs.Evaluation.{Evaluation}
@@ -107,6 +107,23 @@ module _ (T : Tables) (ws : List ℕ) (long : used T ≤ length ws) where
 
     pub get-falseRoots : (i : ℕ) → i < words32 (rootCount T) → getD ws (falseRootsStart T + i) 0 ≡ getD (held .falseRoots .members) i 0
     get-falseRoots i l = here (falseRootsStart T + i) ∙ stores.load-falseRoots T held (fits-of T ws long) (section T ws 1) (section T ws 8) (length-unused T ws long) i l
+
+  -- ---- a set lent as a slice of its own
+
+  lent-part : (a b : ℕ) → take (b - a) (drop a ws) ≡ take (b - a) (drop a (image (ofWords T ws) (section T ws 1) (section T ws 8)))
+  lent-part a b = ap (λ l. take (b - a) (drop a l)) (sym (image-of T ws long))
+
+  pub part-worklist : take (supportStart T - worklistStart T) (drop (worklistStart T) ws) ≡ ofWords T ws .worklist .members
+  part-worklist = lent-part (worklistStart T) (supportStart T) ∙ stores.read-worklist T (ofWords T ws) (fits-of T ws long) (section T ws 1) (section T ws 8) (length-unused T ws long)
+
+  pub part-candidate : take (missingStart T - candidateStart T) (drop (candidateStart T) ws) ≡ ofWords T ws .candidate
+  part-candidate = lent-part (candidateStart T) (missingStart T) ∙ stores.read-candidate T (ofWords T ws) (fits-of T ws long) (section T ws 1) (section T ws 8) (length-unused T ws long)
+
+  pub part-missing : take (falseRootsStart T - missingStart T) (drop (missingStart T) ws) ≡ ofWords T ws .missing .members
+  part-missing = lent-part (missingStart T) (falseRootsStart T) ∙ stores.read-missing T (ofWords T ws) (fits-of T ws long) (section T ws 1) (section T ws 8) (length-unused T ws long)
+
+  pub part-falseRoots : take (used T - falseRootsStart T) (drop (falseRootsStart T) ws) ≡ ofWords T ws .falseRoots .members
+  part-falseRoots = lent-part (falseRootsStart T) (used T) ∙ stores.read-falseRoots T (ofWords T ws) (fits-of T ws long) (section T ws 1) (section T ws 8) (length-unused T ws long)
 
 -- the header's words
 pub get-state : (T : Tables) (ws : List ℕ) → getD ws 0 0 ≡ ofWords T ws .state

@@ -21,13 +21,12 @@ use Rattle.kept.specs.Step.{Stepped, idle, took, fault, step}
 use Rattle.kept.specs.Start.{walkStart, lowestEntered}
 use Rattle.kept.specs.Walk.{broken, walk, walkFrom, keptWalk}
 use Rattle.kept.specs.Check.{Result, concluded, keptResult}
-use Rattle.kept.specs.Layout.{section, ofWords, written, candidateStart, missingStart, used}
-use Rattle.kept.specs.LayoutLaws.{Fits, image-of, length-unused, fits-of}
-use Rattle.kept_laws.specs.Stores.{read-candidate}
+use Rattle.kept.specs.Layout.{ofWords, written, candidateStart, missingStart, used}
+use Rattle.kept.specs.LayoutLaws.{Fits, fits-of}
 use Rattle.kept_laws.specs.FitsLaws.{step-fits, start-fits}
 use Rattle.kept_laws.specs.WalkEnds.{step-next}
 use Rattle.kept_laws.specs.Turns.{resumed, resumed-none, walk-more, walk-done, walk-stop}
-use Rattle.kept_laws.specs.Written.{written-same, of-written, length-written, written-again}
+use Rattle.kept_laws.specs.Written.{written-same, of-written, length-written, written-again, part-candidate}
 use Rattle.kept_laws.specs.Wrote.{Beside, beside-same, beside-then, beside-written}
 use Rattle.step.specs.Steps.{Steps}
 use Rattle.step.specs.declared.Taking.{Taking}
@@ -127,20 +126,15 @@ module _ (T : Tables) (J : Interpretation) (ws : List ℕ) (long : used T ≤ le
   abbrev result : Result
   result = keptResult T (keptWalk T J e)
 
-  candidate-part : take (missingStart T - candidateStart T) (drop (candidateStart T) ws) ≡ e .candidate
-  candidate-part =
-      ap (λ l. take (missingStart T - candidateStart T) (drop (candidateStart T) l)) (sym (image-of T ws long))
-      ∙ read-candidate T e (fits-of T ws long) (section T ws 1) (section T ws 8) (length-unused T ws long)
-
   -- as the code finds it, in that part of the words
   pub stray-in : (r : ℕ) → r ≡ next 32 (take (missingStart T - candidateStart T) (drop (candidateStart T) ws)) (atomCount T) → ltb r (32 * words32 (atomCount T)) ≡ stray
-  stray-in r h = ap₂ (λ x y. ltb x (32 * y)) (h ∙ ap (λ l. next 32 l (atomCount T)) candidate-part) (sym (fits-of T ws long .candidate))
+  stray-in r h = ap₂ (λ x y. ltb x (32 * y)) (h ∙ ap (λ l. next 32 l (atomCount T)) (part-candidate T ws long)) (sym (fits-of T ws long .candidate))
 
   -- without it, the kept candidate has atoms alone
   pub not-stray : stray ≡ false → Within (atomCount T) (present e)
   not-stray h =
       kept-within T ws long
-      (rw candidate-part (omega (arith, fits-of T ws long .candidate, ltb-false (next 32 (e .candidate) (atomCount T)) (32 * length (e .candidate)) h)))
+      (rw (part-candidate T ws long) (omega (arith, fits-of T ws long .candidate, ltb-false (next 32 (e .candidate) (atomCount T)) (32 * length (e .candidate)) h)))
 
   pub update-stray : stray ≡ true → Results T ws result (Refused (BadEntry 0)) ws
   unfolding keptWalk keptResult

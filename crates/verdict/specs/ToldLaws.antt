@@ -14,14 +14,12 @@ use Rattle.words.specs.Next.{next}
 use Rattle.kept.specs.CountedSet as sets
 use Rattle.kept.specs.CountedSet.{CountedSet, lookup}
 use Rattle.kept.specs.Tables.{Tables}
-use Rattle.kept.specs.Layout.{section, image, ofWords, missingStart, falseRootsStart, used}
-use Rattle.kept.specs.LayoutLaws.{fits-of, length-unused, image-of}
+use Rattle.kept.specs.Layout.{ofWords, missingStart, falseRootsStart, used}
 use Rattle.kept.specs.Verdict as verdicts
 use Rattle.kept.specs.Verdict.{judged, verdictOf}
 use Rattle.kept_laws.specs.Exits.{lookup-found, lookup-astray}
 use Rattle.kept_laws.specs.Given.{sized, rooted}
-use Rattle.kept_laws.specs.Stores.{read-missing, read-falseRoots}
-use Rattle.kept_laws.specs.Written.{get-missing-size, get-falseRoots-size}
+use Rattle.kept_laws.specs.Written.{get-missing-size, get-falseRoots-size, part-missing, part-falseRoots}
 use Rattle.verdict.specs.Told.{lookupOf}
 use Rattle.verdict.specs.declared.Lookup.{Lookup}
 use Rattle.verdict.specs.declared.Lookup.the-variants.{Empty, At, Astray}
@@ -58,18 +56,11 @@ module _ (T : Tables) (ws : List ℕ) (long : used T ≤ length ws) (size : ℕ)
   abbrev lent : ℕ → ℕ → CountedSet
   lent a b = record { members = take (b - a) (drop a ws); size = size }
 
-  here : (a b : ℕ) → take (b - a) (drop a ws) ≡ take (b - a) (drop a (image (ofWords T ws) (section T ws 1) (section T ws 8)))
-  here a b = ap (λ l. take (b - a) (drop a l)) (sym (image-of T ws long))
-
   pub lent-falseRoots : size ≡ getD ws 3 0 → lent (falseRootsStart T) (used T) ≡ ofWords T ws .falseRoots
-  lent-falseRoots e =
-      let m = here (falseRootsStart T) (used T) ∙ read-falseRoots T (ofWords T ws) (fits-of T ws long) (section T ws 1) (section T ws 8) (length-unused T ws long) in
-      rw (m, e ∙ get-falseRoots-size T ws)
+  lent-falseRoots e = rw (part-falseRoots T ws long, e ∙ get-falseRoots-size T ws)
 
   pub lent-missing : size ≡ getD ws 2 0 → lent (missingStart T) (falseRootsStart T) ≡ ofWords T ws .missing
-  lent-missing e =
-      let m = here (missingStart T) (falseRootsStart T) ∙ read-missing T (ofWords T ws) (fits-of T ws long) (section T ws 1) (section T ws 8) (length-unused T ws long) in
-      rw (m, e ∙ get-missing-size T ws)
+  lent-missing e = rw (part-missing T ws long, e ∙ get-missing-size T ws)
 
 -- ---- the verdict, whatever the rest of the tables is
 

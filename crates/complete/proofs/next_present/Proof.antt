@@ -1,4 +1,4 @@
-use Rattle.complete.specs.Fills.{candidate-part}
+use Rattle.kept_laws.specs.Written.{part-candidate}
 use Rattle.words.specs.Next.{next}
 use mathlib.Core.Path.{ap, _∙_}
 use Rattle.kept_laws.specs.Given.{sized}
@@ -55,7 +55,7 @@ next-requires c κs = search needs
 
 -- src/lib.rt:186:1
 returns : tie.Need-returns
-returns c = λ T. c .next .ensures ∙ ap (λ w. next 32 w (c .before .before .before .before .before .args .from)) (candidate-part (sized (c .before .before .before .before .before .args .counts) T) (c .before .before .before .before .before .args .kept .now) (c .before .before .before .before .before .pre .1))
+returns c = λ T. c .next .ensures ∙ ap (λ w. next 32 w (c .before .before .before .before .before .args .from)) (part-candidate (sized (c .before .before .before .before .before .args .counts) T) (c .before .before .before .before .before .args .kept .now) (c .before .before .before .before .before .pre .1))
 
 pub next-present-spec : {M : Type 1} → statement M
 next-present-spec =
