@@ -1,6 +1,6 @@
 // A run: a file's bytes become the text that the user reads, on the run's own zeroed tables for 512 atoms, 1,024 nodes, 1,024 operand entries and 512 roots.
 ghost use mathlib.Core.Path.{_≡_};
-ghost use Prim.Native.Nat.{_+_, _^_, _<_, _≤_};
+ghost use Prim.Native.Nat.{_+_, _*_, _^_, _<_, _≤_};
 ghost use lib.ListN.{length, take, drop, replicate};
 ghost use mathlib.Core.List.{_++_};
 ghost use Rattle.record.specs.File.{theoryFile, verdict};
@@ -216,13 +216,13 @@ fn lines(file: &[u8], out: &mut [u8]) -> usize
     }
 }
 
-// The first n bytes of the source.
-fn copy(out: &mut [u8], source: &[u8], n: usize)
-    requires { ⌜ (n ≤ length (now out)) × (n ≤ length (now source)) ⌝ }
-    ensures { λ _. ⌜ now (out .exit) ≡ take n (now (source .entry)) ++ drop n (now (out .entry)) ⌝ }
+// The first `count` bytes of the source.
+fn copy(out: &mut [u8], source: &[u8], count: usize)
+    requires { ⌜ (count ≤ length (now out)) × (count ≤ length (now source)) ⌝ }
+    ensures { λ _. ⌜ now (out .exit) ≡ take count (now (source .entry)) ++ drop count (now (out .entry)) ⌝ }
 {
     let mut i = 0;
-    while i < n {
+    while i < count {
         out[i] = source[i];
         i += 1;
     }
@@ -243,12 +243,4 @@ pub fn run(file: &[u8], out: &mut [u8]) -> usize
         return n;
     }
     lines(file, out)
-}
-
-// The same for a host in C or Rust.
-#[no_mangle]
-pub extern "C" fn tight_run(file: &[u8], out: &mut [u8]) -> usize
-    ensures { λ r. ⌜ running r (now (out .exit)) ≡ runOf (now (file .entry)) (now (out .entry)) ⌝ }
-{
-    run(file, out)
 }

@@ -1,30 +1,26 @@
+use native.Mathlib.Omega.{arith}
+use mathlib.Core.Path.{sym}
+use lib.Seq.{length-take-le}
+use Rattle.text.specs.ClipLaws.{put-then, put-end}
+use Rattle.text.specs.LinesLaws.{length-theory-line}
 use borrow.Author.Needs.{needs}
 use Rattle.run.proofs.head_lines.Statement.{statement}
 use Rattle.run.proofs.head_lines.Tie as tie
-use Rattle.run.proofs.head_lines.Reads as reads
-use Rattle.run.proofs.head_lines.Lts as lts
-use Rattle.text.proofs.ranks_line.Reads as ranks-line-reads
-use Rattle.text.proofs.theory_line.Reads as theory-line-reads
 
--- src/lib.rt:184:9
 theory-line-requires : tie.Need-theory-line-requires
 theory-line-requires c κs = search needs
 
--- src/lib.rt:186:32
 slice-aggregate-ranks-line : tie.Need-slice-aggregate-ranks-line
-slice-aggregate-ranks-line c = ?
+slice-aggregate-ranks-line c = sym (length-take-le (c .before .before .before .before .before .before .before .before .args .counts .atoms) (c .before .before .before .before .before .before .before .before .args .ranks .now) (c .before .before .before .before .before .before .before .before .pre .1))
 
--- src/lib.rt:186:5
 ranks-line-requires : tie.Need-ranks-line-requires
-ranks-line-requires c κs = ?
+ranks-line-requires c κs = (omega (arith, put-end 200 (c .before .before .before .before .theory-line .ensures) (length-theory-line (c .before .before .before .before .before .before .before .before .args .counts) (c .before .before .before .before .before .before .before .before .args .p))), omega (arith, length-take-le (c .before .before .before .before .before .before .before .before .args .counts .atoms) (c .before .before .before .before .before .before .before .before .args .ranks .now) (c .before .before .before .before .before .before .before .before .pre .1), c .before .before .before .before .before .before .before .before .pre .0))
 
--- src/lib.rt:180:1
 same-length : tie.Need-same-length
 same-length c = search needs
 
--- src/lib.rt:180:1
 returns : tie.Need-returns
-returns c = ?
+returns c = put-then (c .before .before .before .before .before .before .before .theory-line .ensures) (c .before .before .ranks-line .ensures)
 
 pub head-lines-spec : {M : Type 1} → statement M
 head-lines-spec =
