@@ -91,32 +91,47 @@ fn slips() {
     show(b"TH\xff\xff\xff\xff\x00\x00\x00\x00");
 }
 
-// 1,025 nodes, then 513 roots: buffers 1 and 3.
+// Bytes i and i + 1 become a mark.
+fn put_mark(file: &mut [u8], i: usize, first: u8, second: u8) {
+    if i < 65536 {
+        if i + 1 < file.len() {
+            file[i] = first;
+            file[i + 1] = second;
+        }
+    }
+}
+
+// n marks from byte 12 on, one every `step` bytes, behind TH 7 0 and one NF.
+fn put_marks(file: &mut [u8], n: usize, step: usize, first: u8, second: u8) {
+    put_mark(file, 0, 84, 72);
+    put_mark(file, 2, 7, 0);
+    put_mark(file, 10, 78, 70);
+    let mut i = 12;
+    let mut k = 0;
+    while k < n {
+        put_mark(file, i, first, second);
+        i = after(i, step);
+        k += 1;
+    }
+}
+
+fn after(i: usize, step: usize) -> usize {
+    if i < 65536 {
+        if step < 16 {
+            return i + step;
+        }
+    }
+    i
+}
+
+// 9: more nodes or roots than the run's own tables hold
 fn too_many() {
-    let mut file = [0u8; 4096];
-    let head = b"TH\x07\x00\x00\x00\x02\x00\x00\x00";
-    let mut i = 0;
-    while i < 10 {
-        file[i] = head[i];
-        i += 1;
-    }
-    while i < 2060 {
-        file[i] = 78;
-        file[i + 1] = 70;
-        i += 2;
-    }
-    show(&file[..2060]);
-    i = 12;
-    while i < 3090 {
-        file[i] = 82;
-        file[i + 1] = 84;
-        file[i + 2] = 0;
-        file[i + 3] = 0;
-        file[i + 4] = 0;
-        file[i + 5] = 0;
-        i += 6;
-    }
-    show(&file[..3090]);
+    let mut nodes = [0u8; 2060];
+    put_marks(&mut nodes, 1024, 2, 78, 70);
+    show(&nodes);
+    let mut roots = [0u8; 3090];
+    put_marks(&mut roots, 513, 6, 82, 84);
+    show(&roots);
 }
 
 fn main() {

@@ -1,6 +1,6 @@
 // A run: a file's bytes become the text that the user reads, on the run's own zeroed tables for 512 atoms, 1,024 nodes, 1,024 operand entries and 512 roots.
 ghost use mathlib.Core.Path.{_≡_};
-ghost use Prim.Native.Nat.{_+_, _*_, _^_, _<_, _≤_};
+ghost use Prim.Native.Nat.{_+_, _^_, _<_, _≤_};
 ghost use lib.ListN.{length, take, drop, replicate};
 ghost use mathlib.Core.List.{_++_};
 ghost use Rattle.record.specs.File.{theoryFile, verdict};
