@@ -127,7 +127,7 @@ fn settle(checked: Checked, kept: &mut [u32], n: usize) -> Checked
     }
 }
 
-// Whether the candidate is a stable model, with the nodes gone over; `kept` is the kept evaluation (document 01's books).
+// Whether the candidate is a stable model, with the nodes gone over; `kept` is the kept evaluation (document 01's books). The same equation holds on words, plans and tables not made here: kept_laws/proofs/AnyWords says what it gives there.
 pub fn check(
     counts: Counts,
     plan: Plan,
