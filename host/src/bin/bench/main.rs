@@ -62,34 +62,28 @@ fn time(nanoseconds: f64) -> String {
     }
 }
 
-fn row(shape: &str, nodes: usize, what: &str, times: Times, note: &str) {
-    println!(
-        "| {shape} | {nodes} | {what} | {} | {} | {:.2} | {note} |",
-        time(times.ours),
-        time(times.rust),
-        times.ratio()
-    );
+/// Ratio, our time, the Rust's time.
+fn cell(times: Times) -> String {
+    let ratio = times.ratio();
+    format!("{ratio:.2} ({}, {})", time(times.ours), time(times.rust))
 }
 
+/// One row of the table: all measures of an input.
 fn shape(name: &str, input: Input, least: Duration) {
     let mut both = Both::new(input, least);
     let counts = both.counts();
-    let nodes = counts.nodes;
-    let [plan, admitted] = both.plan();
-    let sizes = format!(
-        "{} atoms, {} operand entries, {} roots",
-        counts.atoms, counts.operands, counts.roots
-    );
-    row(name, nodes, "plan", plan, &sizes);
-    row(name, nodes, "plan, Rust with admission", admitted, "");
-    let [fresh, again] = both.fresh();
-    row(name, nodes, "fresh", fresh, "");
-    row(name, nodes, "fresh, then equal", again, "");
+    let mut cells = vec![
+        name.to_owned(),
+        counts.nodes.to_string(),
+        format!("{}, {}, {}", counts.atoms, counts.operands, counts.roots),
+    ];
+    cells.extend(both.plan().map(cell));
+    cells.extend(both.fresh().map(cell));
     for changes in [1, 8, 64] {
         let (kept, over) = both.kept(changes);
-        let note = format!("{over:.0} nodes gone over");
-        row(name, nodes, &format!("kept {changes}"), kept, &note);
+        cells.push(format!("{}; {over:.0}", cell(kept)));
     }
+    println!("| {} |", cells.join(" | "));
 }
 
 fn growth(least: Duration) {
@@ -126,33 +120,47 @@ fn growth(least: Duration) {
     }
 }
 
-/// The least time of a measure and the shape to time, if one is named.
-fn arguments() -> Option<(Duration, Option<String>)> {
-    let mut arguments = std::env::args().skip(1);
-    let seconds: f64 = match arguments.next() {
-        None => 0.4,
-        Some(text) => text.parse().ok()?,
+/// The least time of a measure and the shape to time, if one is named; or what is wrong.
+fn arguments(given: &[String]) -> Result<(Duration, Option<&str>), String> {
+    let (seconds, word) = match given {
+        [] => (None, None),
+        [seconds] => (Some(seconds), None),
+        [seconds, word] => (Some(seconds), Some(word.as_str())),
+        _ => return Err(format!("{} arguments, not two at most", given.len())),
     };
-    if !(seconds > 0.0 && seconds <= 60.0) {
-        return None;
+    let least = seconds.map_or(Some(0.4), |text| {
+        let seconds: f64 = text.parse().ok()?;
+        (seconds > 0.0 && seconds <= 60.0).then_some(seconds)
+    });
+    let least = least.ok_or_else(|| format!("{:?} is no such time", given[0]))?;
+    let known = |word| word == "growth" || SHAPES.iter().any(|&(name, _)| name == word);
+    if let Some(word) = word
+        && !known(word)
+    {
+        return Err(format!("{word:?} is no shape"));
     }
-    let word = arguments.next();
-    let known = |word: &String| word == "growth" || SHAPES.iter().any(|(name, _)| name == word);
-    if arguments.next().is_some() || word.as_ref().is_some_and(|word| !known(word)) {
-        return None;
-    }
-    Some((Duration::from_secs_f64(seconds), word))
+    Ok((Duration::from_secs_f64(least), word))
 }
 
 fn main() -> ExitCode {
-    let Some((least, word)) = arguments() else {
-        eprintln!("{USAGE}");
-        return ExitCode::from(2);
+    let given: Vec<String> = std::env::args_os()
+        .skip(1)
+        .map(|argument| argument.to_string_lossy().into_owned())
+        .collect();
+    let (least, word) = match arguments(&given) {
+        Ok(arguments) => arguments,
+        Err(wrong) => {
+            eprintln!("bench: {wrong}\n{USAGE}");
+            return ExitCode::from(2);
+        }
     };
-    let wanted = |name: &str| word.as_ref().is_none_or(|word| word == name);
+    let wanted = |name: &str| word.is_none_or(|word| word == name);
     if SHAPES.iter().any(|(name, _)| wanted(name)) {
-        println!("| shape | nodes | what | ours | Rust | ratio | |");
-        println!("|---|---|---|---|---|---|---|");
+        println!(
+            "| shape | nodes | atoms, operand entries, roots | plan | plan, Rust with admission \
+             | fresh | fresh, then equal | kept 1; nodes | kept 8; nodes | kept 64; nodes |"
+        );
+        println!("|---|---|---|---|---|---|---|---|---|---|");
     }
     for (name, input) in SHAPES {
         if !wanted(name) {
@@ -169,4 +177,50 @@ fn main() -> ExitCode {
         growth(least);
     }
     ExitCode::SUCCESS
+}
+
+#[cfg(test)]
+mod tests {
+    use super::*;
+    use crate::drawing::Node;
+
+    /// Each measure sees first that both sides agree, and the base stable.
+    #[test]
+    fn both_sides_agree() {
+        let inputs = SHAPES.map(|(_, input)| input(SIZES[0])).into_iter();
+        for input in inputs.chain(GROWING.map(|(_, input)| input(1))) {
+            let mut both = Both::new(input, Duration::ZERO);
+            both.plan();
+            both.fresh();
+            assert!(both.kept(1).1 > 0.0);
+        }
+    }
+
+    /// Ticket No. 14 by hand: from seed 0 the draws are 15470, 18256, 53708 and 43769.
+    #[test]
+    fn load_as_in_ticket() {
+        let drawing = shapes::load(0, 5, 2).drawing;
+        let nodes = [
+            Node::False,
+            Node::Implies(0, 5),
+            Node::Or(vec![0, 6]),
+            Node::Implies(1, 3),
+            Node::Implies(0, 1),
+        ];
+        assert_eq!(drawing.nodes[5..], nodes);
+        assert_eq!(drawing.roots, [7, 8, 9]);
+    }
+
+    #[test]
+    fn bad_arguments() {
+        let refused = |given: &[&str]| {
+            let given: Vec<String> = given.iter().map(|&text| text.to_owned()).collect();
+            arguments(&given).is_err()
+        };
+        for seconds in ["", "x", "0", "-1", "nan", "inf", "61"] {
+            assert!(refused(&[seconds]), "{seconds}");
+        }
+        assert!(refused(&["1", "tower"]) && refused(&["1", "deep", "1"]));
+        assert!(!refused(&[]) && !refused(&["1"]) && !refused(&["0.5", "growth"]));
+    }
 }
