@@ -8,10 +8,15 @@
 mod compare;
 mod damage;
 mod document;
+#[path = "../../shared/drawing.rs"]
 mod drawing;
 mod generate;
+mod heap;
+#[path = "../../shared/random.rs"]
 mod random;
+#[path = "../../shared/reference/mod.rs"]
 mod reference;
+#[path = "../../shared/rust.rs"]
 mod rust;
 mod shrink;
 mod stable;

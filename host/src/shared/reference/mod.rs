@@ -4,9 +4,10 @@ pub mod algebra;
 pub mod atomic_choice;
 pub mod copying;
 mod extremum;
-pub mod heap;
 pub mod operand_evaluation;
 
+// The heap of the program that this is compiled into.
+pub(crate) use crate::heap;
 pub use extremum::{ExtremaMeasure, ExtremumCut, ExtremumCutRule, ExtremumRow};
 pub use theory::{
     AdmissionLimits, FormulaParts, Interpretation, Node, NodeView, NumericDomain, OperandSpan,

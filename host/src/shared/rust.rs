@@ -9,20 +9,28 @@ use crate::reference::tight::{
 use crate::reference::{self, AdmissionLimits, FormulaParts, Interpretation, OperandSpan};
 use tight::{Head, Producer, Refusal, Verdict};
 
-const PLAN_LIMITS: TightPlanLimits = TightPlanLimits {
+pub const PLAN_LIMITS: TightPlanLimits = TightPlanLimits {
     max_producers: usize::MAX,
     max_dependencies: usize::MAX,
     max_bytes: u64::MAX,
     max_work: u64::MAX,
 };
 
-const CHECK_LIMITS: TightCheckLimits = TightCheckLimits {
+pub const CHECK_LIMITS: TightCheckLimits = TightCheckLimits {
     max_bytes: u64::MAX,
     max_work: u64::MAX,
 };
 
-/// The theory as the Rust admits it: pairs inline, other groups as spans of the operand table.
-pub fn theory(drawing: &Drawing) -> reference::Theory {
+/// A theory's columns before the Rust admits them.
+pub struct Columns {
+    atoms: usize,
+    nodes: Vec<reference::Node>,
+    operands: Vec<usize>,
+    roots: Vec<usize>,
+}
+
+/// The columns of a theory: pairs inline, other groups as spans of the operand table.
+pub fn columns(drawing: &Drawing) -> Columns {
     let mut operands: Vec<usize> = Vec::new();
     let nodes = drawing
         .nodes
@@ -46,10 +54,28 @@ pub fn theory(drawing: &Drawing) -> reference::Theory {
             }
         })
         .collect();
-    let roots = drawing.roots.iter().map(|&root| root as usize).collect();
-    let parts = FormulaParts::new(nodes, operands).expect("connective nodes");
-    reference::Theory::new(drawing.atoms, parts, roots, AdmissionLimits::default())
-        .expect("an admitted theory")
+    Columns {
+        atoms: drawing.atoms,
+        nodes,
+        operands,
+        roots: drawing.roots.iter().map(|&root| root as usize).collect(),
+    }
+}
+
+/// The theory as the Rust admits it.
+pub fn admit(columns: Columns) -> reference::Theory {
+    let parts = FormulaParts::new(columns.nodes, columns.operands).expect("connective nodes");
+    reference::Theory::new(
+        columns.atoms,
+        parts,
+        columns.roots,
+        AdmissionLimits::default(),
+    )
+    .expect("an admitted theory")
+}
+
+pub fn theory(drawing: &Drawing) -> reference::Theory {
+    admit(columns(drawing))
 }
 
 /// The Rust's error by its number; errors of meters and storage cannot happen here.
@@ -99,6 +125,16 @@ pub fn ranks(plan: &TightPlan) -> Vec<u32> {
     plan.ranks().iter().map(|&rank| rank as u32).collect()
 }
 
+pub fn verdict(verdict: TightVerdict) -> Verdict {
+    match verdict {
+        TightVerdict::Stable => Verdict::Stable,
+        TightVerdict::NotModel { root } => Verdict::NotModel { root: root as u64 },
+        TightVerdict::Residual { unsupported_atom } => Verdict::Residual {
+            atom: unsupported_atom as u64,
+        },
+    }
+}
+
 /// The Rust's workspace over one plan.
 pub struct Checker<'p> {
     plan: &'p TightPlan,
@@ -134,14 +170,8 @@ impl<'p> Checker<'p> {
         let attempt = self
             .workspace
             .check(self.plan, &candidate, CHECK_LIMITS, &Cancellation);
-        let verdict = match attempt.result.map_err(refusal)?.verdict {
-            TightVerdict::Stable => Verdict::Stable,
-            TightVerdict::NotModel { root } => Verdict::NotModel { root: root as u64 },
-            TightVerdict::Residual { unsupported_atom } => Verdict::Residual {
-                atom: unsupported_atom as u64,
-            },
-        };
-        Ok((verdict, self.workspace.taken()))
+        let found = verdict(attempt.result.map_err(refusal)?.verdict);
+        Ok((found, self.workspace.taken()))
     }
 
     /// The kept evaluation; its summary too after an update.

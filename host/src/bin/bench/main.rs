@@ -1,0 +1,226 @@
+//! Times libtight.a beside the Rust that it is carried over from, in one process and on the same
+//! inputs, after seeing that both answer the same.
+//!
+//! `bench [SECONDS [WORD]]`: each measure takes at least SECONDS (0.4 if none are given), and only
+//! shapes whose name is WORD are timed. It prints medians and ratios, ours / Rust.
+
+#[path = "../../shared/drawing.rs"]
+#[allow(dead_code, reason = "differ uses the rest")]
+mod drawing;
+mod heap;
+mod measure;
+#[path = "../../shared/random.rs"]
+#[allow(dead_code, reason = "differ uses the rest")]
+mod random;
+#[path = "../../shared/reference/mod.rs"]
+mod reference;
+#[path = "../../shared/rust.rs"]
+#[allow(dead_code, reason = "differ uses the rest")]
+mod rust;
+mod shapes;
+
+use measure::{Both, Times};
+use shapes::Input;
+use std::process::ExitCode;
+use std::time::Duration;
+
+const USAGE: &str = "usage: bench [SECONDS [WORD]]\n\
+     SECONDS: the least time of a measure, above 0 and at most 60\n\
+     WORD: chain, wide, heads, load, deep or growth; all if none is given";
+
+/// About 1,000 nodes, 16,000, and the most.
+const SIZES: [usize; 3] = [1024, 16_384, 262_144];
+
+/// The most atoms and rules of ticket No. 14.
+const LOAD: (usize, usize) = (1024, 4096);
+
+/// The growth table's sizes, as multiples of the least one.
+const GROWTH: [usize; 3] = [1, 10, 100];
+
+type Shape = (&'static str, fn(usize) -> Input);
+
+const SHAPES: [Shape; 5] = [
+    ("chain", shapes::chain),
+    ("wide", shapes::wide),
+    ("heads", shapes::heads),
+    ("load", shapes::load_of),
+    ("deep", shapes::deep),
+];
+
+const GROWING: [Shape; 3] = [
+    ("chain", |times| shapes::chain(1_310 * times)),
+    ("near", |times| shapes::fixed(2_600 * times, false)),
+    ("far", |times| shapes::fixed(2_600 * times, true)),
+];
+
+/// A time with its unit.
+fn time(nanoseconds: f64) -> String {
+    match nanoseconds {
+        n if n < 1e4 => format!("{n:.0} ns"),
+        n if n < 1e7 => format!("{:.1} us", n / 1e3),
+        n => format!("{:.1} ms", n / 1e6),
+    }
+}
+
+/// Ratio, our time, the Rust's time.
+fn cell(times: Times) -> String {
+    let ratio = times.ratio();
+    format!("{ratio:.2} ({}, {})", time(times.ours), time(times.rust))
+}
+
+/// One row of the table: all measures of an input.
+fn shape(name: &str, input: Input, least: Duration) {
+    let mut both = Both::new(input, least);
+    let counts = both.counts();
+    let mut cells = vec![
+        name.to_owned(),
+        counts.nodes.to_string(),
+        format!("{}, {}, {}", counts.atoms, counts.operands, counts.roots),
+    ];
+    cells.extend(both.plan().map(cell));
+    cells.extend(both.fresh().map(cell));
+    for changes in [1, 8, 64] {
+        let (kept, over) = both.kept(changes);
+        cells.push(format!("{}; {over:.0}", cell(kept)));
+    }
+    println!("| {} |", cells.join(" | "));
+}
+
+fn growth(least: Duration) {
+    println!(
+        "\n| shape | changed | nodes | ours | Rust | ratio | ours, tenfold | Rust, tenfold | nodes gone over |"
+    );
+    println!("|---|---|---|---|---|---|---|---|---|");
+    for (name, input) in GROWING {
+        let mut sizes: Vec<_> = GROWTH
+            .iter()
+            .map(|&times| Both::new(input(times), least))
+            .collect();
+        for changes in [1, 8] {
+            let mut last: Option<Times> = None;
+            for both in &mut sizes {
+                let (times, over) = both.kept(changes);
+                let factors = last.map_or_else(
+                    || "| | |".to_owned(),
+                    |last| {
+                        let (ours, rust) = (times.ours / last.ours, times.rust / last.rust);
+                        format!("| {ours:.1} | {rust:.1} |")
+                    },
+                );
+                println!(
+                    "| {name} | {changes} | {} | {} | {} | {:.2} {factors} {over:.0} |",
+                    both.counts().nodes,
+                    time(times.ours),
+                    time(times.rust),
+                    times.ratio(),
+                );
+                last = Some(times);
+            }
+        }
+    }
+}
+
+/// The least time of a measure and the shape to time, if one is named; or what is wrong.
+fn arguments(given: &[String]) -> Result<(Duration, Option<&str>), String> {
+    let (seconds, word) = match given {
+        [] => (None, None),
+        [seconds] => (Some(seconds), None),
+        [seconds, word] => (Some(seconds), Some(word.as_str())),
+        _ => return Err(format!("{} arguments, not two at most", given.len())),
+    };
+    let least = seconds.map_or(Some(0.4), |text| {
+        let seconds: f64 = text.parse().ok()?;
+        (seconds > 0.0 && seconds <= 60.0).then_some(seconds)
+    });
+    let least = least.ok_or_else(|| format!("{:?} is no such time", given[0]))?;
+    let known = |word| word == "growth" || SHAPES.iter().any(|&(name, _)| name == word);
+    if let Some(word) = word
+        && !known(word)
+    {
+        return Err(format!("{word:?} is no shape"));
+    }
+    Ok((Duration::from_secs_f64(least), word))
+}
+
+fn main() -> ExitCode {
+    let given: Vec<String> = std::env::args_os()
+        .skip(1)
+        .map(|argument| argument.to_string_lossy().into_owned())
+        .collect();
+    let (least, word) = match arguments(&given) {
+        Ok(arguments) => arguments,
+        Err(wrong) => {
+            eprintln!("bench: {wrong}\n{USAGE}");
+            return ExitCode::from(2);
+        }
+    };
+    let wanted = |name: &str| word.is_none_or(|word| word == name);
+    if SHAPES.iter().any(|(name, _)| wanted(name)) {
+        println!(
+            "| shape | nodes | atoms, operand entries, roots | plan | plan, Rust with admission \
+             | fresh | fresh, then equal | kept 1; nodes | kept 8; nodes | kept 64; nodes |"
+        );
+        println!("|---|---|---|---|---|---|---|---|---|---|");
+    }
+    for (name, input) in SHAPES {
+        if !wanted(name) {
+            continue;
+        }
+        for nodes in SIZES {
+            shape(name, input(nodes), least);
+            if name == "load" && nodes == SIZES[0] {
+                shape(name, shapes::load(14, LOAD.0, LOAD.1), least);
+            }
+        }
+    }
+    if wanted("growth") {
+        growth(least);
+    }
+    ExitCode::SUCCESS
+}
+
+#[cfg(test)]
+mod tests {
+    use super::*;
+    use crate::drawing::Node;
+
+    /// Each measure sees first that both sides agree, and the base stable.
+    #[test]
+    fn both_sides_agree() {
+        let inputs = SHAPES.map(|(_, input)| input(SIZES[0])).into_iter();
+        for input in inputs.chain(GROWING.map(|(_, input)| input(1))) {
+            let mut both = Both::new(input, Duration::ZERO);
+            both.plan();
+            both.fresh();
+            assert!(both.kept(1).1 > 0.0);
+        }
+    }
+
+    /// Ticket No. 14 by hand: from seed 0 the draws are 15470, 18256, 53708 and 43769.
+    #[test]
+    fn load_as_in_ticket() {
+        let drawing = shapes::load(0, 5, 2).drawing;
+        let nodes = [
+            Node::False,
+            Node::Implies(0, 5),
+            Node::Or(vec![0, 6]),
+            Node::Implies(1, 3),
+            Node::Implies(0, 1),
+        ];
+        assert_eq!(drawing.nodes[5..], nodes);
+        assert_eq!(drawing.roots, [7, 8, 9]);
+    }
+
+    #[test]
+    fn bad_arguments() {
+        let refused = |given: &[&str]| {
+            let given: Vec<String> = given.iter().map(|&text| text.to_owned()).collect();
+            arguments(&given).is_err()
+        };
+        for seconds in ["", "x", "0", "-1", "nan", "inf", "61"] {
+            assert!(refused(&[seconds]), "{seconds}");
+        }
+        assert!(refused(&["1", "tower"]) && refused(&["1", "deep", "1"]));
+        assert!(!refused(&[]) && !refused(&["1"]) && !refused(&["0.5", "growth"]));
+    }
+}
