@@ -95,6 +95,8 @@ pub struct CandidateWords<'a> {
 }
 
 unsafe extern "C" {
+    fn tight_run(file: *const u8, file_len: usize, out: *mut u8, out_len: usize) -> usize;
+
     fn tight_plan(
         stamp: u32,
         atoms: usize,
@@ -291,18 +293,8 @@ pub fn reader_list(readers: &[u64], slot: usize) -> Option<&[u64]> {
     readers.get(place(slot)?..place(slot + 1)?)
 }
 
-#[cfg(feature = "run")]
-mod file {
-    unsafe extern "C" {
-        fn tight_run(file: *const u8, file_len: usize, out: *mut u8, out_len: usize) -> usize;
-    }
-
-    /// `tight_run`: the text of a theory file at the front of `out`; its length, or 0 if it does not fit.
-    pub fn run(file: &[u8], out: &mut [u8]) -> usize {
-        // SAFETY: both pointers are slices' with their lengths, and `out` overlaps no other.
-        unsafe { tight_run(file.as_ptr(), file.len(), out.as_mut_ptr(), out.len()) }
-    }
+/// `tight_run`: the text of a theory file at the front of `out`; its length, or 0 if it does not fit.
+pub fn run(file: &[u8], out: &mut [u8]) -> usize {
+    // SAFETY: as in `plan`.
+    unsafe { tight_run(file.as_ptr(), file.len(), out.as_mut_ptr(), out.len()) }
 }
-
-#[cfg(feature = "run")]
-pub use file::run;

@@ -186,3 +186,13 @@ fn drawings_c7_to_c9() {
         [(Verdict::NotModel { root: 0 }, 1)]
     );
 }
+
+#[test]
+fn example_file_is_run() {
+    let file = include_bytes!("../../crates/tightcheck/stdin");
+    let text = include_bytes!("../../crates/tightcheck/stdout");
+    let mut out = [0; 200];
+    assert_eq!(tight::call::run(file, &mut out), text.len());
+    assert_eq!(out[..text.len()], text[..]);
+    assert_eq!(tight::call::run(file, &mut [0; 106]), 0);
+}

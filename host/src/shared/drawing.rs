@@ -1,8 +1,8 @@
 //! Inputs as values: a theory, proposed ranks and a series of candidates.
 
 use std::fmt;
-use tight::Counts;
 use tight::call::Tables;
+use tight::{Check, Counts};
 
 #[derive(Clone, Debug, PartialEq, Eq)]
 pub enum Node {
@@ -162,4 +162,12 @@ impl fmt::Display for Case {
         }
         Ok(())
     }
+}
+
+/// What a run tells of a theory that is planned, and of its candidates.
+#[derive(Clone, Debug, PartialEq, Eq)]
+pub struct Told {
+    pub producers: usize,
+    pub ranks: Vec<u32>,
+    pub checks: Vec<Check>,
 }

@@ -1,13 +1,13 @@
 //! The lifted Rust behind the harness's types.
 
-use crate::drawing::{Candidate, Drawing, Node};
+use crate::drawing::{Candidate, Drawing, Node, Told};
 use crate::reference::algebra::Cancellation;
 use crate::reference::tight::{
     TightCheckLimits, TightError, TightPlan, TightPlanLimits, TightProducerKind, TightVerdict,
     TightWorkspace,
 };
 use crate::reference::{self, AdmissionLimits, FormulaParts, Interpretation, OperandSpan};
-use tight::{Head, Producer, Refusal, Verdict};
+use tight::{Check, Head, Producer, Refusal, Verdict};
 
 pub const PLAN_LIMITS: TightPlanLimits = TightPlanLimits {
     max_producers: usize::MAX,
@@ -178,4 +178,29 @@ impl<'p> Checker<'p> {
     pub fn kept(&self) -> Option<reference::tight::KeptView<'_>> {
         self.workspace.kept()
     }
+}
+
+/// What a run tells of a theory and a series of candidates.
+pub fn told(drawing: &Drawing, series: &[Candidate]) -> Result<Told, Refusal> {
+    let plan = plan(&theory(drawing))?;
+    let mut checker = Checker::new(&plan);
+    let checks = series.iter().map(|candidate| {
+        let (verdict, taken) = checker.check(drawing, candidate)?;
+        // only an update leaves a summary
+        let kept = checker.kept().is_some_and(|view| view.summary.is_some());
+        let nodes = if kept {
+            taken.len()
+        } else {
+            drawing.nodes.len()
+        };
+        Ok(Check {
+            verdict,
+            nodes: nodes as u64,
+        })
+    });
+    Ok(Told {
+        checks: checks.collect::<Result<_, _>>()?,
+        producers: producers(&plan).len(),
+        ranks: ranks(&plan),
+    })
 }

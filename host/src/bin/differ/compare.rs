@@ -26,6 +26,7 @@ pub trait Subject {
         candidate: CandidateWords<'_>,
         kept: &mut [u32],
     ) -> Answer;
+    fn run(&self, file: &[u8], out: &mut [u8]) -> usize;
 }
 
 /// libtight.a.
@@ -55,6 +56,10 @@ impl Subject for Library {
         kept: &mut [u32],
     ) -> Answer {
         call::check(counts, tables, lent, candidate, kept)
+    }
+
+    fn run(&self, file: &[u8], out: &mut [u8]) -> usize {
+        call::run(file, out)
     }
 }
 
@@ -107,6 +112,11 @@ pub struct Tally {
     pub residual: u64,
     pub brute_force: u64,
     pub damaged: u64,
+    pub files: u64,
+    pub files_accepted: u64,
+    /// By 1 to 8, by 9, by 10 to 12.
+    pub files_refused: [u64; 3],
+    pub file_checks: u64,
 }
 
 impl Tally {
@@ -125,6 +135,12 @@ impl Tally {
         self.residual += other.residual;
         self.brute_force += other.brute_force;
         self.damaged += other.damaged;
+        self.files += other.files;
+        self.files_accepted += other.files_accepted;
+        for (count, other) in self.files_refused.iter_mut().zip(other.files_refused) {
+            *count += other;
+        }
+        self.file_checks += other.file_checks;
     }
 }
 
@@ -134,7 +150,8 @@ impl fmt::Display for Tally {
             f,
             "theories {} (accepted {}, unsupported {}, cycles {}), proposals {} (accepted {}), \
              checks {} (fresh {}, kept {}, refused {}; stable {}, notmodel {}, residual {}), \
-             brute force {}, damaged {}",
+             brute force {}, damaged {}, \
+             files {} (accepted {}, refused by 1 to 8 {}, by 9 {}, by 10 to 12 {}; checks {})",
             self.theories,
             self.accepted,
             self.unsupported,
@@ -150,6 +167,12 @@ impl fmt::Display for Tally {
             self.residual,
             self.brute_force,
             self.damaged,
+            self.files,
+            self.files_accepted,
+            self.files_refused[0],
+            self.files_refused[1],
+            self.files_refused[2],
+            self.file_checks,
         )
     }
 }

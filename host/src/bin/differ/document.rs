@@ -1,7 +1,7 @@
 //! Document 01 read a second time: what planning and checking answer, by definition and not by the
 //! Rust's algorithms.
 
-use crate::drawing::{Candidate, Drawing, Node, STAMP};
+use crate::drawing::{Candidate, Drawing, Node, STAMP, Told};
 use tight::call::{LIMITS, Tables};
 use tight::{Check, Counts, Head, Producer, Refusal, Verdict};
 
@@ -411,4 +411,21 @@ pub fn check(drawing: &Drawing, old: Option<&Evaluation>, new: &Evaluation) -> (
         nodes: nodes.len() as u64,
     };
     (check, nodes)
+}
+
+/// What a run tells of a theory and a series of candidates.
+pub fn told(drawing: &Drawing, series: &[Candidate]) -> Result<Told, Refusal> {
+    let (producers, ranks) = planned(drawing, None)?;
+    let mut last = None;
+    let mut checks = Vec::with_capacity(series.len());
+    for candidate in series {
+        let new = evaluation(drawing, &producers, candidate);
+        checks.push(check(drawing, last.as_ref(), &new).0);
+        last = Some(new);
+    }
+    Ok(Told {
+        producers: producers.len(),
+        ranks,
+        checks,
+    })
 }

@@ -330,7 +330,7 @@ impl<'r> Builder<'r> {
 }
 
 /// A random theory, most of them accepted.
-fn theory(random: &mut Random, atoms: usize, roots: usize) -> Drawing {
+pub fn theory(random: &mut Random, atoms: usize, roots: usize) -> Drawing {
     let mut builder = Builder::new(random, atoms);
     for _ in 0..roots {
         builder.root();
@@ -536,7 +536,7 @@ fn choices(random: &mut Random, atoms: usize) -> Drawing {
     builder.drawing
 }
 
-/// Changes of as many atoms as a kept check takes, one fewer, one and two more.
+/// A theory and a series across the bound between kept and fresh.
 pub fn boundary(random: &mut Random, atoms: usize) -> Case {
     let drawing = loop {
         let drawing = if random.chance(50) {
@@ -548,20 +548,25 @@ pub fn boundary(random: &mut Random, atoms: usize) -> Case {
             break drawing;
         }
     };
-    let most = (atoms / 8).max(64);
-    let mut series = vec![any_candidate(random, &drawing)];
-    for _ in 0..3 {
+    Case {
+        series: across(random, &drawing, 3),
+        proposals: Vec::new(),
+        drawing,
+    }
+}
+
+/// A series with changes of as many atoms as a kept check takes, one fewer, one and two more.
+pub fn across(random: &mut Random, drawing: &Drawing, rounds: usize) -> Vec<Candidate> {
+    let most = (drawing.atoms / 8).max(64);
+    let mut series = vec![any_candidate(random, drawing)];
+    for _ in 0..rounds {
         for count in [most, most + 1, most - 1, most + 2, 1, 0, 64, 65] {
             let last = series.last().expect("a first candidate");
-            let next = flipped(random, &drawing, last, count);
+            let next = flipped(random, drawing, last, count);
             series.push(next);
         }
     }
-    Case {
-        drawing,
-        proposals: Vec::new(),
-        series,
-    }
+    series
 }
 
 /// The greatest counts of every table at once: 65,536 atoms, 131,072 groups of eight operands and

@@ -2,20 +2,25 @@
 //! time, and with Ferraris's definition.
 //!
 //! `differ SEED COUNT`: all small theories of a few shapes, COUNT random ones, series across the
-//! bound between kept and fresh, theories at the limits, COUNT damaged tables. It stops at the first
-//! difference, tells the smallest input it found, and ends with a line of counts and status 1.
+//! bound between kept and fresh, theories at the limits, COUNT damaged tables; then theory files:
+//! document 01's example with every byte changed and every end cut, COUNT sound ones and COUNT
+//! damaged ones, some near a run's room, some long. It stops at the first difference, tells the
+//! smallest input it found, and ends with a line of counts and status 1.
 
 mod compare;
 mod damage;
 mod document;
 #[path = "../../shared/drawing.rs"]
 mod drawing;
+mod file;
 mod generate;
+mod generate_file;
 mod heap;
 #[path = "../../shared/random.rs"]
 mod random;
 #[path = "../../shared/reference/mod.rs"]
 mod reference;
+mod run;
 #[path = "../../shared/rust.rs"]
 mod rust;
 mod shrink;
@@ -36,6 +41,13 @@ const SMALL: [u32; 4] = [3, 3, 4, 3];
 const BOUNDARIES: [usize; 16] = [
     1, 63, 64, 65, 127, 128, 129, 511, 512, 513, 519, 520, 521, 528, 1000, 4096,
 ];
+
+/// Document 01's example.
+const EXAMPLE: &[u8] = include_bytes!("../../../../crates/tightcheck/stdin");
+
+/// Files for each one near a run's room, and for each long one.
+const NEAR: u64 = 50;
+const LONG: u64 = 1000;
 
 /// Longer text of a difference is cut.
 const SHOWN: usize = 4000;
@@ -71,6 +83,16 @@ impl Run {
             let smallest = damaged.smallest(&Library, &difference.kind, random);
             let told = smallest.compare(&Library).err().unwrap_or(difference);
             report(&told, &format!("{smallest:#?}"));
+            self.differs = true;
+        }
+        !self.differs
+    }
+
+    /// Compares the run of one file.
+    fn file(&mut self, file: Vec<u8>) -> bool {
+        if let Err(difference) = run::compared(&Library, &file, &mut self.tally) {
+            let (file, difference) = run::shrink(&Library, file, difference);
+            report(&difference, &run::hex(&file));
             self.differs = true;
         }
         !self.differs
@@ -123,6 +145,37 @@ fn main() -> ExitCode {
     });
     run.group("damaged", |run| {
         (0..count).all(|_| run.damaged(&mut random))
+    });
+    run.group("example file", |run| {
+        (0..EXAMPLE.len()).all(|at| {
+            (0..=u8::MAX).all(|byte| {
+                let mut file = EXAMPLE.to_vec();
+                file[at] = byte;
+                run.file(file)
+            }) && run.file(EXAMPLE[..at].to_vec())
+        })
+    });
+    run.group("sound files", |run| {
+        (0..count).all(|number| {
+            let file = if number % LONG == 0 {
+                generate_file::long(&mut random)
+            } else if number % NEAR == 0 {
+                generate_file::near_room(&mut random).records().concat()
+            } else {
+                generate_file::sound(&mut random).records().concat()
+            };
+            run.file(file)
+        })
+    });
+    run.group("damaged files", |run| {
+        (0..count).all(|number| {
+            let theory = if number % NEAR == 0 {
+                generate_file::near_room(&mut random)
+            } else {
+                generate_file::sound(&mut random)
+            };
+            run.file(generate_file::damaged(&mut random, &theory))
+        })
     });
     println!(
         "seed {seed} count {count}: {}; differences {}",

@@ -1,6 +1,6 @@
 //! A smaller input with the same kind of difference.
 
-use crate::compare::{Difference, Subject, Tally, compare};
+use crate::compare::{Compared, Difference, Subject, Tally, compare};
 use crate::drawing::{Case, Drawing, Node};
 use std::panic::{AssertUnwindSafe, catch_unwind};
 use std::time::{Duration, Instant};
@@ -8,9 +8,14 @@ use std::time::{Duration, Instant};
 /// How long smaller inputs are tried.
 const TIME: Duration = Duration::from_secs(60);
 
-/// Compares one input; a panic of a side is a difference too.
-pub fn compared(subject: &impl Subject, case: &Case, tally: &mut Tally) -> Result<(), Difference> {
-    catch_unwind(AssertUnwindSafe(|| compare(subject, case, tally))).unwrap_or_else(|_| {
+/// Compares one input.
+pub fn compared(subject: &impl Subject, case: &Case, tally: &mut Tally) -> Compared {
+    caught(|| compare(subject, case, tally))
+}
+
+/// A panic of a side is a difference too.
+pub fn caught(compare: impl FnOnce() -> Compared) -> Compared {
+    catch_unwind(AssertUnwindSafe(compare)).unwrap_or_else(|_| {
         Err(Difference {
             kind: "panic".into(),
             detail: "a side panicked".into(),
@@ -53,7 +58,7 @@ fn without_node(drawing: &Drawing, gone: usize) -> Option<Drawing> {
 }
 
 /// A list without each of its parts, long parts first.
-fn without_parts<T: Clone>(values: &[T]) -> impl Iterator<Item = Vec<T>> + '_ {
+pub fn without_parts<T: Clone>(values: &[T]) -> impl Iterator<Item = Vec<T>> + '_ {
     let mut sizes = vec![];
     let mut size = values.len();
     while size > 0 {
@@ -70,7 +75,7 @@ fn without_parts<T: Clone>(values: &[T]) -> impl Iterator<Item = Vec<T>> + '_ {
 }
 
 /// Smaller inputs, large steps first.
-fn smaller(case: &Case) -> impl Iterator<Item = Case> + '_ {
+pub fn smaller(case: &Case) -> impl Iterator<Item = Case> + '_ {
     let series = without_parts(&case.series).map(|series| Case {
         series,
         ..case.clone()
@@ -132,14 +137,29 @@ fn smaller(case: &Case) -> impl Iterator<Item = Case> + '_ {
 
 /// The smallest input found with a difference of the same kind.
 pub fn shrink(subject: &impl Subject, case: Case, difference: Difference) -> (Case, Difference) {
-    let (mut best, mut told) = (case, difference);
+    smallest(
+        case,
+        difference,
+        |case| Box::new(smaller(case)),
+        |case| compared(subject, case, &mut Tally::default()),
+    )
+}
+
+/// Goes to a smaller input with a difference of the same kind as long as there is one.
+pub fn smallest<T>(
+    input: T,
+    difference: Difference,
+    smaller: impl Fn(&T) -> Box<dyn Iterator<Item = T> + '_>,
+    compared: impl Fn(&T) -> Compared,
+) -> (T, Difference) {
+    let (mut best, mut told) = (input, difference);
     let start = Instant::now();
     loop {
         let found = smaller(&best)
             .take_while(|_| start.elapsed() < TIME)
-            .find_map(|case| {
-                let difference = compared(subject, &case, &mut Tally::default()).err()?;
-                (difference.kind == told.kind).then_some((case, difference))
+            .find_map(|input| {
+                let difference = compared(&input).err()?;
+                (difference.kind == told.kind).then_some((input, difference))
             });
         match found {
             Some(smaller) => (best, told) = smaller,

@@ -2,8 +2,9 @@
 
 use crate::compare::{Library, Subject, Tally, compare};
 use crate::damage::Damaged;
+use crate::file::{self, counted, encoded};
 use crate::random::Random;
-use crate::{generate, shrink};
+use crate::{EXAMPLE, document, generate, generate_file, run, rust, shrink};
 use tight::Counts;
 use tight::call::{Answer, CandidateWords, LIMITS, Lent, Planned, Tables};
 
@@ -153,6 +154,10 @@ impl Subject for Fault {
         }
         answer
     }
+
+    fn run(&self, file: &[u8], out: &mut [u8]) -> usize {
+        Library.run(file, out)
+    }
 }
 
 #[test]
@@ -234,6 +239,9 @@ fn damage_reaches_every_refusal() {
         ) -> Answer {
             self.saw(Library.check(counts, tables, lent, candidate, kept))
         }
+        fn run(&self, file: &[u8], out: &mut [u8]) -> usize {
+            Library.run(file, out)
+        }
     }
     let seen = Seen(Vec::new().into());
     let mut random = Random::new(3);
@@ -254,4 +262,199 @@ fn the_limits_are_reached() {
     let counts = crate::drawing::Encoded::new(&case.drawing).counts;
     assert_eq!(counts.numbers(), LIMITS);
     assert_eq!(generate::longest_chain().drawing.nodes.len(), LIMITS[1]);
+}
+
+/// Document 01's example and its small inputs for refusals, with the texts it gives.
+#[test]
+fn files_are_read_as_document_01_says() {
+    let stored = include_str!("../../../../crates/tightcheck/stdout");
+    let head = encoded(b"TH", &[7, 2]);
+    let atom = encoded(b"NA", &[0]);
+    let file = |records: &[&[u8]]| [&[&head[..]], records].concat().concat();
+    let most: Vec<u8> = file(&[&counted(b"CA", &[]).repeat(10_921)]);
+    assert_eq!(most.len(), file::MOST_BYTES);
+    let cases = [
+        (EXAMPLE.to_vec(), stored),
+        (vec![], "refused 1 0\n"),
+        (b"T".to_vec(), "refused 2 0\n"),
+        (b"TH123".to_vec(), "refused 2 0\n"),
+        (b"RT".to_vec(), "refused 1 0\n"),
+        (
+            file(&[]),
+            "th 7 atoms 2 nodes 0 roots 0 producers 0\nranks 0 0\n",
+        ),
+        (
+            encoded(b"TH", &[u32::MAX, 0]),
+            "th 4294967295 atoms 0 nodes 0 roots 0 producers 0\nranks\n",
+        ),
+        (file(&[&head]), "refused 1 1\n"),
+        (file(&[b"CA\0\0\0\0", b"RT"]), "refused 1 2\n"),
+        (file(&[&atom, b"N"]), "refused 2 2\n"),
+        (encoded(b"TH", &[0, 65_537]), "refused 3 0\n"),
+        (encoded(b"TH", &[0, 65_536]), "refused 9 0\n"),
+        (file(&[&encoded(b"NA", &[2])]), "refused 4 1\n"),
+        (file(&[&encoded(b"NI", &[0, 0])]), "refused 5 1\n"),
+        (file(&[&counted(b"NC", &[])]), "refused 6 1\n"),
+        (file(&[&encoded(b"NC", &[u32::MAX])]), "refused 2 1\n"),
+        (file(&[&encoded(b"RT", &[0])]), "refused 7 1\n"),
+        (file(&[&counted(b"CA", &[1, 1])]), "refused 8 1\n"),
+        (file(&[&counted(b"CA", &[1, 1, 2])]), "refused 4 1\n"),
+        (file(&[&b"NF".repeat(1025)]), "refused 9 1\n"),
+        (file(&[&atom, &counted(b"NC", &[0; 1025])]), "refused 9 2\n"),
+        (
+            file(&[&atom, &encoded(b"RT", &[0]).repeat(513)]),
+            "refused 9 3\n",
+        ),
+        ([&most[..], b"C"].concat(), "refused 3 65536\n"),
+        (vec![0; file::MOST_BYTES], "refused 1 0\n"),
+    ];
+    for (file, text) in cases {
+        assert_eq!(file::text(&file, document::told), text);
+        assert_eq!(file::text(&file, rust::told), text);
+        run::compare(&Library, &file, &mut Tally::default()).expect("no difference");
+    }
+    let mut tally = Tally::default();
+    run::compare(&Library, &most, &mut tally).expect("no difference");
+    assert_eq!(tally.file_checks, 10_921);
+}
+
+#[derive(Clone, Copy, Debug)]
+enum FileFault {
+    /// Another record or node is named.
+    Place,
+    /// An atom too high in a candidate is told as atoms not rising.
+    Order,
+    /// The last check's nodes are one too many.
+    Nodes,
+    /// A byte behind the text is written.
+    Behind,
+    /// An output that is too short takes the text's front.
+    Short,
+    /// A text that just fits is refused.
+    Fits,
+}
+
+impl FileFault {
+    /// The library's text, changed.
+    fn changed(self, file: &[u8]) -> String {
+        let mut out = vec![0; 1 << 19];
+        let length = Library.run(file, &mut out);
+        let text = String::from_utf8(out[..length].to_vec()).expect("ASCII");
+        let numbers: Vec<u64> = text.split([' ', '\n']).flat_map(str::parse).collect();
+        match (self, numbers.first()) {
+            (Self::Place, Some(5)) if text.starts_with("refused") => {
+                format!("refused 5 {}\n", numbers[1] + 1)
+            }
+            (Self::Order, Some(4)) if text.starts_with("refused") => {
+                format!("refused 8 {}\n", numbers[1])
+            }
+            (Self::Nodes, _) if text.lines().count() > 3 => {
+                let end = text.rfind(' ').expect("a line of a check");
+                format!("{} {}\n", &text[..end], numbers[numbers.len() - 1] + 1)
+            }
+            _ => text,
+        }
+    }
+}
+
+impl Subject for FileFault {
+    fn plan(&self, counts: Counts, tables: Tables<'_>, planned: Planned<'_>) -> Answer {
+        Library.plan(counts, tables, planned)
+    }
+    fn certify(
+        &self,
+        counts: Counts,
+        tables: Tables<'_>,
+        proposed: &[u32],
+        planned: Planned<'_>,
+    ) -> Answer {
+        Library.certify(counts, tables, proposed, planned)
+    }
+    fn check(
+        &self,
+        counts: Counts,
+        tables: Tables<'_>,
+        lent: Lent<'_>,
+        candidate: CandidateWords<'_>,
+        kept: &mut [u32],
+    ) -> Answer {
+        Library.check(counts, tables, lent, candidate, kept)
+    }
+
+    fn run(&self, file: &[u8], out: &mut [u8]) -> usize {
+        let text = self.changed(file);
+        if text.len() > out.len() || matches!(self, Self::Fits) && text.len() == out.len() {
+            if matches!(self, Self::Short) {
+                out.copy_from_slice(&text.as_bytes()[..out.len()]);
+            }
+            return 0;
+        }
+        out[..text.len()].copy_from_slice(text.as_bytes());
+        if matches!(self, Self::Behind) && text.len() < out.len() {
+            out[text.len()] = 0;
+        }
+        text.len()
+    }
+}
+
+/// The smallest files: nothing, a head alone, a head and a short record or two.
+#[test]
+fn file_faults_are_found_and_shrunk() {
+    for (fault, most) in [
+        (FileFault::Place, 20),
+        (FileFault::Order, 20),
+        (FileFault::Nodes, 24),
+        (FileFault::Behind, 0),
+        (FileFault::Short, 0),
+        (FileFault::Fits, 0),
+    ] {
+        let mut random = Random::new(1);
+        let mut files = (0..5000).map(|_| {
+            let theory = generate_file::sound(&mut random);
+            generate_file::damaged(&mut random, &theory)
+        });
+        let (file, difference) = files
+            .find_map(|file| {
+                let difference = run::compare(&fault, &file, &mut Tally::default()).err()?;
+                Some((file, difference))
+            })
+            .unwrap_or_else(|| panic!("{fault:?} is not found"));
+        let (small, told) = run::shrink(&fault, file, difference.clone());
+        assert_eq!(told.kind, difference.kind, "{fault:?}");
+        assert!(small.len() <= most, "{fault:?}: {}", run::hex(&small));
+    }
+}
+
+/// Files reach every refusal of a run with each of its kinds of place, and texts longer than files.
+#[test]
+fn files_reach_every_text() {
+    let mut random = Random::new(6);
+    let mut tally = Tally::default();
+    let mut texts = Vec::new();
+    for number in 0..6000 {
+        let theory = match number % 40 {
+            0 => generate_file::near_room(&mut random),
+            _ => generate_file::sound(&mut random),
+        };
+        let file = match number % 80 {
+            0..30 => theory.records().concat(),
+            41 if number % 10 == 1 => generate_file::long(&mut random),
+            _ => generate_file::damaged(&mut random, &theory),
+        };
+        run::compare(&Library, &file, &mut tally).expect("no difference");
+        texts.push(file::text(&file, rust::told));
+    }
+    for number in 1..=12 {
+        let start = format!("refused {number} ");
+        let reached = texts.iter().any(|text| text.starts_with(&start));
+        assert!(reached, "{number} is not reached");
+    }
+    for line in ["9 0", "9 1", "9 2", "9 3", "3 65536", "3 0", "1 0", "2 0"] {
+        let line = format!("refused {line}\n");
+        assert!(texts.contains(&line), "not reached: {line}");
+    }
+    let full = " atoms 512 nodes 1024 roots 512 ";
+    assert!(texts.iter().any(|text| text.contains(full)));
+    assert!(texts.iter().any(|text| text.len() > file::MOST_BYTES));
+    assert!(tally.files_accepted > 2000 && tally.file_checks > 10_000);
 }
