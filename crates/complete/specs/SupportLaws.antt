@@ -5,14 +5,13 @@ use native.Mathlib.Omega.{arith}
 use mathlib.Core.Path.{_≡_, refl, ap, sym, _∙_}
 use mathlib.Core.Logic.{inl, inr}
 use mathlib.Core.Bool.{Bool, true, false, _&&_}
-use mathlib.Core.List.{List, []}
+use mathlib.Core.List.{List}
 use mathlib.Core.Option.{some}
 use lib.Dec.{ltb, leb}
 use lib.ListN.{length, getD, replicate}
 use borrow.Author.Tests.{ltb-true}
 use Rattle.base.specs.Tests.{both-left}
 use Rattle.base.specs.Places.{count-most}
-use Rattle.theory.specs.declared.Counts.{Counts}
 use Rattle.kept.specs.Tabulate.{tabulate, tabulate-at, length-tabulate}
 use Rattle.kept.specs.Tables.{Tables, atomCount, nodeCount, headAt, bodyAt}
 use Rattle.kept.specs.Evaluation.{Evaluation, truthAt, bodyTrue, supports}
@@ -25,10 +24,6 @@ use Rattle.kept_laws.specs.Written.{of-written, length-written, get-support}
 use Rattle.complete.specs.Fills.{tabulate-zero}
 use Rattle.complete.specs.Phases.{counted, producerCounted, supportLaid}
 use Rattle.complete.specs.Runs.{Turn}
-
--- no tables but the counts
-abbrev pub bare : Counts → Tables
-bare t = record { counts = t; plan = 0; made = 0; nodes = []; operands = []; roots = []; producers = []; readers = [] }
 
 module _ (T : Tables) (e : Evaluation) where
   -- by the producers below p

@@ -10,11 +10,9 @@ use lib.ListN.{length}
 use borrow.Author.Tests.{le-leb, lt-leb, leb-true}
 use Rattle.base.specs.Tests.{same-test}
 use Rattle.record.specs.Mark.{markAt}
-use Rattle.record.specs.Number as Numbers
 use Rattle.record.specs.declared.Mark.{Mark}
 use Rattle.record.specs.declared.Mark.the-variants.{Unknown}
-use Rattle.file_reader.specs.declared.Found.the-variants.{Number, Cut}
-use Rattle.file_reader.specs.Read.{markIn, numberIn}
+use Rattle.file_reader.specs.Read.{markIn}
 
 pub has-rest : (at k n : ℕ) → at ≤ n → leb k (n - at) ≡ leb (at + k) n
 has-rest at k n h =
@@ -32,11 +30,3 @@ mark-here file at m h e = rw h e
 pub mark-none : (file : List ℕ) (at : ℕ) → leb (at + 2) (length file) ≡ false → Unknown ≡ markIn file at
 unfolding markIn
 mark-none file at h = rw h
-
-pub number-here : (file : List ℕ) (at n : ℕ) → leb (at + 4) (length file) ≡ true → n ≡ Numbers.number file at → Number n ≡ numberIn file at
-unfolding numberIn
-number-here file at n h e = rw (h, e)
-
-pub number-none : (file : List ℕ) (at : ℕ) → leb (at + 4) (length file) ≡ false → Cut ≡ numberIn file at
-unfolding numberIn
-number-none file at h = rw h

@@ -4,17 +4,12 @@ ghost use mathlib.Core.Path.{_≡_};
 ghost use Prim.Native.Nat.{_+_};
 ghost use lib.ListN.{length};
 ghost use lib.Dec.{leb};
-ghost use Rattle.file_reader.specs.Read.{markIn, numberIn};
+ghost use Rattle.file_reader.specs.Read.{markIn};
 use record::Mark;
 
 pub struct Reader<'a> {
     pub file: &'a [u8],
     pub offset: usize,
-}
-
-pub enum Found {
-    Number(usize),
-    Cut,
 }
 
 // So many bytes stand from `at` on.
@@ -31,16 +26,6 @@ pub fn mark_of(file: &[u8], at: usize) -> Mark
         record::mark_at(file, at)
     } else {
         Mark::Unknown
-    }
-}
-
-pub fn number_of(file: &[u8], at: usize) -> Found
-    ensures { λ r. ⌜ r ≡ numberIn (now (file .entry)) at ⌝ }
-{
-    if has(file, at, 4) {
-        Found::Number(record::number(file, at))
-    } else {
-        Found::Cut
     }
 }
 
@@ -71,21 +56,9 @@ pub fn mark<'a>(r: Reader<'a>) -> Mark
     mark_of(r.file, r.offset)
 }
 
-pub fn number<'a>(r: Reader<'a>) -> Found
-    ensures { λ n. ⌜ n ≡ numberIn (now (r .entry .file)) (r .entry .offset) ⌝ }
-{
-    number_of(r.file, r.offset)
-}
-
-// Plain parameters: who calls these needs no proof by hand.
+// Plain parameters: who calls this needs no proof by hand.
 pub fn mark_from(file: &[u8], at: usize) -> Mark
     ensures { λ m. ⌜ m ≡ markIn (now (file .entry)) at ⌝ }
 {
     mark(moved(open(file), at))
-}
-
-pub fn number_from(file: &[u8], at: usize) -> Found
-    ensures { λ n. ⌜ n ≡ numberIn (now (file .entry)) at ⌝ }
-{
-    number(moved(open(file), at))
 }

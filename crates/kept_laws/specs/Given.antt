@@ -1,7 +1,7 @@
 -- Tables of which a call is lent a part, whatever the rest of T is; and where a kept evaluation's sections stand, by the counts alone.
 -- Assumes nothing.
 use Prim.Native.Nat.{ℕ, _+_}
-use mathlib.Core.List.{List}
+use mathlib.Core.List.{List, []}
 use Rattle.theory.specs.declared.Counts.{Counts}
 use Rattle.kept.specs.SetOf.{words32}
 use Rattle.kept.specs.Tables.{Tables}
@@ -23,6 +23,10 @@ falseRootsAt t = missingAt t + words32 (t .atoms)
 
 abbrev pub usedBy : Counts → ℕ
 usedBy t = falseRootsAt t + words32 (t .roots)
+
+-- no tables but the counts, where a fact depends on nothing else
+abbrev pub bare : Counts → Tables
+bare t = record { counts = t; plan = 0; made = 0; nodes = []; operands = []; roots = []; producers = []; readers = [] }
 
 -- the counts
 abbrev pub sized : Counts → Tables → Tables

@@ -18,7 +18,6 @@ use Rattle.words.specs.Bit.{bit}
 use Rattle.words.specs.BitLaws.{bit-xor}
 use Rattle.words.specs.Changed.{unlike}
 use Rattle.words.specs.Sets.{member}
-use Rattle.theory.specs.declared.Counts.{Counts}
 use Rattle.kept.specs.Tabulate.{tabulate-at}
 use Rattle.kept.specs.SetOf.{words32, setOf}
 use Rattle.kept.specs.SetOfLaws.{member-below, member-above}
@@ -38,10 +37,6 @@ use Rattle.start.specs.declared.Entered.the-variants.{Low, Stray}
 use Rattle.start.specs.Enters.{Enters}
 use Rattle.start.specs.WordLaws.{wordAtoms, turned-none, lowest-none}
 use Rattle.start.specs.Onward.{enters-low, enters-stray, Onward, onward-first, onward-room, onward-stray, onward-done, onward-more}
-
--- tables of which nothing is known but the counts
-abbrev pub blank : Counts → Tables
-blank t = record { counts = t; plan = 0; made = 0; nodes = []; operands = []; roots = []; producers = []; readers = [] }
 
 -- ---- atoms turned one after the other
 

@@ -2,7 +2,7 @@
 -- Assumes nothing.
 use Prim.Native.Nat.{ℕ}
 use mathlib.Core.Path.{_≡_}
-use mathlib.Core.List.{List, []}
+use mathlib.Core.List.{List}
 use Rattle.theory.specs.declared.Counts.{Counts}
 use Rattle.kept.specs.Tables.{Tables}
 use Rattle.kept.specs.Check as check
@@ -35,7 +35,3 @@ Leaves T ws (check.refused r) after = Beside T ws after
 
 abbrev pub Results : Tables → List ℕ → check.Result → Checked → List ℕ → Type 0
 Results T ws x r after = (answerOf r ≡ answerIn x) × Leaves T ws x after
-
--- some tables, where a fact does not depend on them
-abbrev pub anyTables : Counts → Tables
-anyTables t = record { counts = t; plan = 0; made = 0; nodes = []; operands = []; roots = []; producers = []; readers = [] }

@@ -4,7 +4,7 @@ use Prim.Native.Nat.{ℕ, _<_, _≤_, _-_}
 use native.Mathlib.Omega.{arith}
 use mathlib.Core.Path.{_≡_, refl, ap, sym, _∙_}
 use mathlib.Core.Bool.{Bool, true, false, cond}
-use mathlib.Core.List.{List, []}
+use mathlib.Core.List.{List}
 use mathlib.Core.Option.{Option, some, none}
 use lib.Dec.{eqb, ltb}
 use lib.ListN.{length, getD, take, drop}
@@ -18,7 +18,7 @@ use Rattle.kept.specs.Layout.{ofWords, missingStart, falseRootsStart, used}
 use Rattle.kept.specs.Verdict as verdicts
 use Rattle.kept.specs.Verdict.{judged, verdictOf}
 use Rattle.kept_laws.specs.Exits.{lookup-found, lookup-astray}
-use Rattle.kept_laws.specs.Given.{sized, rooted}
+use Rattle.kept_laws.specs.Given.{bare, sized, rooted}
 use Rattle.kept_laws.specs.Written.{get-missing-size, get-falseRoots-size, part-missing, part-falseRoots}
 use Rattle.verdict.specs.Told.{lookupOf}
 use Rattle.verdict.specs.declared.Lookup.{Lookup}
@@ -42,10 +42,6 @@ lookup-below n i k s = go (eqb (s .size) 0) (ltb (next 32 (s .members) i) n) ref
     go true b h e = let z : _≡_ {A = ℕ} 0 1 = cc in absurd (omega arith)
     go false false h e = let z : _≡_ {A = ℕ} 0 1 = cc in absurd (omega arith)
     go false true h e = let q : next 32 (s .members) i ≡ k = cc in omega (arith, ltb-true (next 32 (s .members) i) n h)
-
--- tables of these counts
-abbrev bare : Counts → Tables
-bare t = record { counts = t; plan = 0; made = 0; nodes = []; operands = []; roots = []; producers = []; readers = [] }
 
 pub told-below : (t : Counts) (n k : ℕ) (s : Tables → CountedSet) (r : Lookup) → ((T : Tables) → lookupOf r ≡ lookup n 0 (s T)) → r ≡ At k → k < n
 told-below t n k s r p q = lookup-below n 0 k (s (bare t)) (sym (p (bare t)) ∙ ap lookupOf q)

@@ -1,8 +1,8 @@
 use Rattle.complete.specs.Loops.{Supports, supports-none, supports-next, supports-stop, supports-done}
-use Rattle.complete.specs.SupportLaws.{bare, supplied-most}
+use Rattle.complete.specs.SupportLaws.{supplied-most}
 use Rattle.kept.specs.LayoutLaws.{fits-of}
 use Rattle.kept.specs.Layout.{ofWords}
-use Rattle.kept_laws.specs.Given.{produced}
+use Rattle.kept_laws.specs.Given.{bare, produced}
 use Rattle.kept_laws.specs.OptionLaws.{not-true, not-false}
 use Rattle.kept.specs.Tables.{Tables}
 use lib.ListN.{length}

@@ -1,6 +1,5 @@
 use Rattle.complete.specs.Loops.{Lacks, lacks-none, lacks-next, lacks-done, next-later}
-use Rattle.complete.specs.SupportLaws.{bare}
-use Rattle.kept_laws.specs.Given.{sized}
+use Rattle.kept_laws.specs.Given.{bare, sized}
 use Rattle.kept.specs.Tables.{Tables}
 use lib.ListN.{length}
 use Prim.Native.Nat.{_-_}

@@ -5,8 +5,8 @@ use lib.ListN.{length}
 use borrow.Author.Needs.{needs}
 use Rattle.words.specs.Sets.{member}
 use Rattle.kept.specs.Tables.{Tables}
-use Rattle.kept_laws.specs.Given.{listed}
-use Rattle.start.specs.StartLaws.{blank, half-place, Starting, starting-first, starting-within, starting-done, starting-stray, starting-more}
+use Rattle.kept_laws.specs.Given.{bare, listed}
+use Rattle.start.specs.StartLaws.{half-place, Starting, starting-first, starting-within, starting-done, starting-stray, starting-more}
 use Rattle.start.proofs.start.Statement.{statement}
 use Rattle.start.proofs.start.Tie as tie
 use Rattle.start.proofs.start.Reads as reads
@@ -34,7 +34,7 @@ half-word-requires c κs = search needs
 
 -- src/lib.rt:134:15
 turn-word-requires : tie.Need-turn-word-requires Inv-loop μ-loop
-turn-word-requires c κs = ((c .before .before .before .before .before .before .before .before .pre .0 .0, c .before .before .before .before .before .before .before .before .pre .0 .2, omega (arith, c .before .before .before .before .before .before .before .before .pre .0 .3, c .before .before .before .loop .inv .1), c .before .before .loop-test .taken), starting-within (listed (c .before .before .before .before .before .before .before .before .args .counts) (c .before .before .before .before .before .before .before .before .args .readers .now) (blank (c .before .before .before .before .before .before .before .before .args .counts))) (c .before .before .before .before .before .before .before .before .args .candidate .now) (c .before .before .before .before .before .before .before .before .args .kept .now) (c .before .before .before .before .before .before .before .before .pre .0 .3) (c .before .before .before .before .before .before .before .before .pre .1 .0) (c .before .before .before .before .before .before .before .before .pre .1 .1 (listed (c .before .before .before .before .before .before .before .before .args .counts) (c .before .before .before .before .before .before .before .before .args .readers .now) (blank (c .before .before .before .before .before .before .before .before .args .counts)))) _ _ _ (c .before .before .before .loop .inv .0 (blank (c .before .before .before .before .before .before .before .before .args .counts))) (c .before .before .loop-test .taken) _ (c .half-word .ensures))
+turn-word-requires c κs = ((c .before .before .before .before .before .before .before .before .pre .0 .0, c .before .before .before .before .before .before .before .before .pre .0 .2, omega (arith, c .before .before .before .before .before .before .before .before .pre .0 .3, c .before .before .before .loop .inv .1), c .before .before .loop-test .taken), starting-within (listed (c .before .before .before .before .before .before .before .before .args .counts) (c .before .before .before .before .before .before .before .before .args .readers .now) (bare (c .before .before .before .before .before .before .before .before .args .counts))) (c .before .before .before .before .before .before .before .before .args .candidate .now) (c .before .before .before .before .before .before .before .before .args .kept .now) (c .before .before .before .before .before .before .before .before .pre .0 .3) (c .before .before .before .before .before .before .before .before .pre .1 .0) (c .before .before .before .before .before .before .before .before .pre .1 .1 (listed (c .before .before .before .before .before .before .before .before .args .counts) (c .before .before .before .before .before .before .before .before .args .readers .now) (bare (c .before .before .before .before .before .before .before .before .args .counts)))) _ _ _ (c .before .before .before .loop .inv .0 (bare (c .before .before .before .before .before .before .before .before .args .counts))) (c .before .before .loop-test .taken) _ (c .half-word .ensures))
 
 -- src/lib.rt:135:26
 enum-known-m : tie.Need-enum-known-m Inv-loop μ-loop
