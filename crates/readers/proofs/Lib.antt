@@ -2,7 +2,9 @@ pub mod Rest
 pub mod Steps
 pub mod Few
 pub mod Placement
+pub mod Pass
 pub mod Walk
+pub mod Below
 pub mod Readers
 pub mod Table
 pub mod Examples

@@ -1,6 +1,6 @@
 -- Count, prefix sum and placement: each step keeps what the words of the lists say, and the end is the table laid.
 -- Assumes nothing.
-use Prim.Native.Nat.{ℕ, zero, suc, _+_, _-_, _<_, _≤_}
+use Prim.Native.Nat.{ℕ, zero, suc, _+_, _-_, _^_, _<_, _≤_}
 use native.Mathlib.Numerals.{add-one}
 use native.Mathlib.Omega.{arith}
 use mathlib.Core.Path.{_≡_, refl, ap, sym, _∙_}
@@ -16,6 +16,9 @@ use Rattle.readers.specs.Joined.{joined, joined-agree, joined-more, join
 use Rattle.readers.specs.Laid.{startOf, laid, laidOver}
 use Rattle.readers.specs.LaidLaws.{start-zero, start-more, start-rises, start-least, length-laid, laid-is}
 use Rattle.readers.specs.Incidences.{Item, item, entriesOf}
+use Rattle.base.specs.Each.{Each}
+use Rattle.readers.specs.Pass.{passed, Fits, counted, countedAll, CountFits, placed, placedAll, PlaceFits}
+use Rattle.readers.proofs.Below.{Below}
 use Rattle.readers.specs.Placement.{Head, total, Zero, Counted, Summed, Started}
 
 -- ---- entries of a list
@@ -148,6 +151,16 @@ count-more n all left rest before words s e q l room h =
 -- what is counted so far stays within the count
 pub count-room : (all left rest : List Item) (s e x : ℕ) → left ≡ item s e ∷ rest → Counting all left s x → x < length all
 count-room all left rest s e x q p = omega (arith, p, ap (λ xs. length (entriesOf s xs)) q, ap length (entries-here s e rest), entries-few s all)
+
+-- all that is left is counted
+pub count-pass : (n : ℕ) (all left : List Item) (before words : List ℕ) → Each (Below n) left → n + 1 ≤ length before → length all < 2 ^ 62
+    → Head n (n + 1) (Counting all left) before words → CountFits left words × Head n (n + 1) (Counted all) before (countedAll left words)
+unfolding passed Fits counted
+count-pass n all [] before words b room few h = (tt, count-done n all [] before words refl h)
+count-pass n all (x ∷ xs) before words b room few h =
+    let r = count-pass n all xs before (counted (x .slot) words) (b .1) room few (count-more n all (x ∷ xs) xs before words (x .slot) (x .entry) refl (b .0) room h) in
+    let below : getD words (x .slot + 1) 0 < length all = count-room all (x ∷ xs) xs (x .slot) (x .entry) _ refl (h .each (x .slot) (b .0)) in
+    ((record { within = omega (arith, b .0, h .long); below = omega arith }, r .0), r .1)
 
 -- ---- sums
 
@@ -338,3 +351,13 @@ module _ (all : List Item) (n : ℕ) where
 
       lists : (s j : ℕ) → s < n → j < length (entriesOf s all) → getD words (start s + j) 0 ≡ getD (entriesOf s all) j 0
       lists s j l m = h .placed s j l (omega (arith, full s l, start-more (λ r. entriesOf r all) n s))
+
+-- all that is left is placed
+pub place-pass : (all : List Item) (n : ℕ) (left : List Item) (before words : List ℕ) → Each (Below n) left → startOf (λ r. entriesOf r all) n n ≤ length before
+    → Placing all left n before words → PlaceFits left words × (placedAll left words ≡ laidOver (λ r. entriesOf r all) n before)
+unfolding passed Fits placed
+place-pass all n [] before words b room h = (tt, place-done all n [] before words refl room h)
+place-pass all n (x ∷ xs) before words b room h =
+    let r = place-pass all n xs before (placed (x .slot) (x .entry) words) (b .1) room (place-more all n (x ∷ xs) xs before words (x .slot) (x .entry) refl (b .0) room h) in
+    let there : getD words (x .slot + 1) 0 < length words = place-within all n (x ∷ xs) xs before words (x .slot) (x .entry) refl (b .0) room h in
+    ((record { within = omega (arith, b .0, h .head .long, start-least (λ r. entriesOf r all) n n); there = there }, r .0), r .1)

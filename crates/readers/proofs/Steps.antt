@@ -3,18 +3,19 @@
 use Prim.Native.Nat.{ℕ, zero, suc, _+_, _-_, _*_, _/_, _%_, _^_, _<_, _≤_}
 use native.Mathlib.Omega.{arith}
 use mathlib.Core.Path.{_≡_, refl, ap, sym, _∙_}
-use mathlib.Core.List.{List, [], _∷_}
+use mathlib.Core.List.{List, [], _∷_, map}
 use lib.ListN.{length, getD, drop}
 use lib.Seq.{getD-take, getD-drop}
 use borrow.Author.Tests.{lt-ltb, le-ltb}
-use Rattle.theory.specs.Node.{nodeAt, span}
+use Rattle.theory.specs.Node.{nodeAt, span, operandsOf}
 use Rattle.theory.specs.declared.Counts.{Counts}
 use Rattle.theory.specs.declared.Node.{Node}
-use Rattle.readers.specs.Incidences.{item, operandItems, nodeItems, bodyItems, producerItems, rootItems}
-use Rattle.readers.specs.Reader.{nodeReader, byTag, readingOf}
+use Rattle.theory.specs.declared.Node.the-variants.{Atom, False, Implies, And, Or, Unknown}
+use Rattle.readers.specs.Incidences.{Item, item, atomSlot, operandItems, nodeItems, bodyItems, producerItems, rootItems}
+use Rattle.readers.specs.Reader.{nodeReader, producerReader, rootReader, byTag, readingOf}
 use Rattle.readers.specs.Cursor.{listedAt, unitItems}
 use Rattle.readers.specs.declared.Reading.{Reading}
-use Rattle.readers.specs.declared.Reading.the-variants.{Unknown}
+use Rattle.readers.specs.declared.Reading.the-variants as reading
 use Rattle.readers.specs.declared.Listed.{Listed}
 use Rattle.readers.proofs.Rest.{end-past}
 use Rattle.readers.specs.declared.Listed.the-variants.{Entry, Past}
@@ -49,11 +50,56 @@ pub node-listed : (n : ℕ) (nodes operands : List ℕ) (k j : ℕ) (node view :
     → r ≡ listedAt (nodeItems n operands k node) j → r ≡ listedAt (nodeItems n operands k (nodeAt nodes k)) j
 node-listed n nodes operands k j node view r p q e = rw (← p, q) e
 
+-- the items of the node at hand
+module _ (n : ℕ) (nodes operands : List ℕ) (k : ℕ) (view : Node) (p : view ≡ nodeAt nodes k) where
+  abbrev here : List Item
+  here = nodeItems n operands k (nodeAt nodes k)
+
+  known : (node : Node) → view ≡ node → here ≡ nodeItems n operands k node
+  known node q = ap (nodeItems n operands k) (sym p ∙ q)
+
+  pub atom-items : (a : ℕ) → view ≡ Atom a → here ≡ item (atomSlot n a) k ∷ []
+  unfolding nodeItems
+  atom-items a q = known (Atom a) q
+
+  pub false-items : view ≡ False → here ≡ []
+  unfolding nodeItems
+  false-items q = known False q
+
+  pub implies-items : (l r : ℕ) → view ≡ Implies l r → here ≡ item l (nodeReader k) ∷ item r (nodeReader k) ∷ []
+  unfolding nodeItems operandItems operandsOf
+  implies-items l r q = known (Implies l r) q
+
+  pub and-items : (s c : ℕ) → view ≡ And s c → here ≡ map (λ o. item o (nodeReader k)) (span operands s c)
+  unfolding nodeItems operandItems operandsOf
+  and-items s c q = known (And s c) q
+
+  pub or-items : (s c : ℕ) → view ≡ Or s c → here ≡ map (λ o. item o (nodeReader k)) (span operands s c)
+  unfolding nodeItems operandItems operandsOf
+  or-items s c q = known (Or s c) q
+
+  pub unknown-items : view ≡ Unknown → here ≡ []
+  unfolding nodeItems
+  unknown-items q = known Unknown q
+
 -- a body at hand
 pub body-listed : (producers : List ℕ) (i j body known : ℕ) (r : Listed) → body ≡ getD producers (4 * i + 1) 0 → body ≡ known
     → r ≡ listedAt (bodyItems i known) j → r ≡ listedAt (producerItems producers i) j
 unfolding producerItems
 body-listed producers i j body known r p q e = rw (← p, q) e
+
+module _ (producers : List ℕ) (i body : ℕ) (p : body ≡ getD producers (4 * i + 1) 0) where
+  pub body-none : body ≡ 0 → producerItems producers i ≡ []
+  unfolding producerItems
+  body-none q = rw (← p, q)
+
+  pub body-one : (body ≡ 0 → ⊥) → producerItems producers i ≡ item (body - 1) (producerReader i) ∷ []
+  unfolding producerItems
+  body-one q = let more : body ≡ suc (body - 1) = omega arith in ap (bodyItems i) (sym p ∙ more)
+
+pub root-one : (roots : List ℕ) (i o e : ℕ) → o ≡ getD roots i 0 → e ≡ rootReader i → rootItems roots i ≡ item o e ∷ []
+unfolding rootItems
+root-one roots i o e p q = rw (p, q)
 
 pub item-listed : (s e s′ e′ j : ℕ) (r : Listed) → r ≡ listedAt (item s e ∷ []) j → s ≡ s′ → e ≡ e′ → r ≡ listedAt (item s′ e′ ∷ []) j
 item-listed s e s′ e′ j r p a b = rw (← a, ← b) p
@@ -81,7 +127,7 @@ pub read-as : (x tag : ℕ) (r : Reading) → x / 2 ^ 62 ≡ tag → r ≡ byTag
 unfolding readingOf
 read-as x tag r e q = rw e q
 
-pub other-tag : (tag i : ℕ) → (tag ≡ 0 → ⊥) → (tag ≡ 2 → ⊥) → (tag ≡ 3 → ⊥) → Unknown ≡ byTag tag i
+pub other-tag : (tag i : ℕ) → (tag ≡ 0 → ⊥) → (tag ≡ 2 → ⊥) → (tag ≡ 3 → ⊥) → reading.Unknown ≡ byTag tag i
 other-tag zero i a b c = absurd (a refl)
 other-tag (suc zero) i a b c = refl
 other-tag (suc (suc zero)) i a b c = absurd (b refl)

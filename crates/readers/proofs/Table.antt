@@ -2,7 +2,7 @@
 -- Assumes nothing.
 use Prim.Native.Nat.{ℕ, _+_, _-_, _^_, _<_, _≤_}
 use native.Mathlib.Omega.{arith}
-use mathlib.Core.Path.{_≡_, ap, sym, _∙_}
+use mathlib.Core.Path.{_≡_, refl, ap, sym, _∙_}
 use mathlib.Core.List.{List, _++_}
 use lib.ListN.{length, drop, length-append, length-drop}
 use lib.Seq.{drop-drop}
@@ -16,8 +16,10 @@ use Rattle.readers.specs.AtomNodes.{atomNodesOf}
 use Rattle.readers.specs.ReaderTable.{listOf, slots, readerWords, built}
 use Rattle.readers.specs.Planned.{Planned}
 use Rattle.readers.specs.Placement.{Head, total, Zero, Counted, Summed, Started}
-use Rattle.readers.proofs.Few.{lists-room}
-use Rattle.readers.proofs.Placement.{total-start, head-map, head-self}
+use Rattle.readers.specs.Pass.{countedAll, CountFits, placedAll, PlaceFits}
+use Rattle.readers.proofs.Below.{all-below}
+use Rattle.readers.proofs.Few.{incidences-few, lists-room}
+use Rattle.readers.proofs.Placement.{count-none, count-pass, place-none, place-pass, total-start, head-map, head-self}
 use Rattle.readers.proofs.Readers.{lists-laid}
 
 drop-later : (a b : ℕ) (xs ys : List ℕ) → a ≤ b → drop a xs ≡ drop a ys → drop b xs ≡ drop b ys
@@ -36,6 +38,21 @@ sums-start all n xs ys zs h k =
 module _ (t : Counts) (nodes operands roots producers : List ℕ) (p : ℕ) (planned : Planned t nodes operands roots producers p) where
   abbrev all : List Item
   all = incidences t nodes operands roots producers p
+
+  -- the words that count can count all incidences
+  pub counts-fit : (words : List ℕ) → slots t + 1 ≤ length words → Head (slots t) (slots t + 1) Zero words words
+      → CountFits all words × Head (slots t) (slots t + 1) (Counted all) words (countedAll all words)
+  counts-fit words room h =
+      count-pass (slots t) all all words words (all-below t nodes operands roots producers p planned) room
+      (omega (arith, incidences-few t nodes operands roots producers p planned, planned .limited .nodes, planned .limited .operands, planned .limited .roots))
+      (count-none (slots t) all all words words refl h)
+
+  -- each incidence has a place, and with all placed the table is laid
+  pub places-fit : (words : List ℕ) → readerWords t ≤ length words → Head (slots t) (slots t + 1) (Started all (slots t)) words words
+      → PlaceFits all words × (placedAll all words ≡ laidOver (λ s. entriesOf s all) (slots t) words)
+  places-fit words room h =
+      place-pass all (slots t) all words words (all-below t nodes operands roots producers p planned)
+      (omega (arith, lists-room t nodes operands roots producers p planned)) (place-none all (slots t) all words refl h)
 
   pub sums-fit : (xs ys : List ℕ) → Head (slots t) (slots t + 1) (Counted all) xs ys → slots t + 1 + total ys (slots t) < 2 ^ 62
   sums-fit xs ys h =

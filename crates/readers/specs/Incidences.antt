@@ -35,6 +35,10 @@ nodeItems n operands k (And s c) = operandItems k (operandsOf operands (And s c)
 nodeItems n operands k (Or s c) = operandItems k (operandsOf operands (Or s c))
 nodeItems n operands k Unknown = []
 
+-- the same of node k of the table
+abbrev pub itemsAt : Counts → List ℕ → List ℕ → ℕ → List Item
+itemsAt t nodes operands k = nodeItems (t .nodes) operands k (nodeAt nodes k)
+
 -- producer i reads its body; its second word is the body + 1, 0 without body
 abbrev pub bodyItems : ℕ → ℕ → List Item
 bodyItems i zero = []
@@ -50,7 +54,7 @@ rootItems roots i = item (getD roots i 0) (rootReader i) ∷ []
 -- nodes, then p producers, then root positions
 unfoldable pub incidences : Counts → List ℕ → List ℕ → List ℕ → List ℕ → ℕ → List Item
 incidences t nodes operands roots producers p =
-    joined (λ k. nodeItems (t .nodes) operands k (nodeAt nodes k)) 0 (t .nodes)
+    joined (itemsAt t nodes operands) 0 (t .nodes)
     ++ (joined (producerItems producers) 0 p ++ joined (rootItems roots) 0 (t .roots))
 
 -- the entries of list s, in order

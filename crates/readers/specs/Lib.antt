@@ -10,3 +10,4 @@ pub mod Proper
 pub mod Cursor
 pub mod LaidLaws
 pub mod Placement
+pub mod Pass

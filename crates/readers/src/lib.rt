@@ -4,7 +4,9 @@ ghost use mathlib.Core.List.{[], _∷_};
 ghost use Prim.Native.Nat.{_+_, _-_, _*_, _^_, _<_, _≤_};
 ghost use lib.ListN.{length, getD};
 ghost use Rattle.readers.specs.Reader.{nodeReader, producerReader, rootReader, readingOf};
-ghost use Rattle.readers.specs.Incidences.{item, atomSlot, operandItems, nodeItems, producerItems, rootItems, incidences, entriesOf};
+ghost use Rattle.readers.specs.Incidences.{item, atomSlot, operandItems, nodeItems, itemsAt, producerItems, rootItems, incidences, entriesOf};
+ghost use Rattle.readers.specs.Joined.{joined};
+ghost use Rattle.readers.specs.Pass.{passed, Fits, Countable, counted, countedAll, CountFits};
 ghost use Rattle.readers.specs.Cursor.{listedAt, unitItems, units, At, Answers};
 ghost use Rattle.readers.specs.Laid.{laidOver, listAt, InOrder, inOrder};
 ghost use Rattle.readers.specs.Planned.{Planned};
@@ -225,6 +227,84 @@ fn clear(table: &mut [u64], n: usize)
     }
 }
 
+// One more entry of a list is counted.
+fn count_one(table: &mut [u64], slot: usize)
+    requires { ⌜ Countable slot (now table) ⌝ }
+    ensures { λ _. ⌜ now (table .exit) ≡ counted slot (now (table .entry)) ⌝ }
+{
+    table[slot + 1] = table[slot + 1] + 1;
+}
+
+// A span's entries, one for each operand.
+fn count_operands(operands: &[u32], start: usize, count: usize, table: &mut [u64])
+    requires { ⌜ (start + count ≤ length (now operands)) × Fits Countable counted (span (now operands) start count) (now table) ⌝ }
+    ensures { λ _. ⌜ now (table .exit) ≡ passed counted (span (now (operands .entry)) start count) (now (table .entry)) ⌝ }
+{
+    let end = start + count;
+    let mut i = start;
+    while i < end {
+        count_one(table, words::word(operands, i));
+        i += 1;
+    }
+}
+
+// The entries that node k makes.
+fn count_node(counts: Counts, nodes: &[u32], operands: &[u32], k: usize, table: &mut [u64])
+    requires { ⌜ (k < counts .nodes) × Limited counts × NodeTables counts (now nodes) (now operands) × CountFits (nodeItems (counts .nodes) (now operands) k (nodeAt (now nodes) k)) (now table) ⌝ }
+    ensures { λ _. ⌜ now (table .exit) ≡ countedAll (nodeItems (counts .nodes) (now (operands .entry)) k (nodeAt (now (nodes .entry)) k)) (now (table .entry)) ⌝ }
+{
+    match theory::view(nodes, k) {
+        Node::Atom(a) => count_one(table, counts.nodes + 1 + a),
+        Node::False => {}
+        Node::Implies(left, right) => {
+            count_one(table, left);
+            count_one(table, right);
+        }
+        Node::And(s, c) => count_operands(operands, s, c, table),
+        Node::Or(s, c) => count_operands(operands, s, c, table),
+        Node::Unknown => {}
+    }
+}
+
+// The entries that nodes make.
+fn count_nodes(counts: Counts, nodes: &[u32], operands: &[u32], table: &mut [u64])
+    requires { ⌜ Limited counts × NodeTables counts (now nodes) (now operands) × CountFits (joined (itemsAt counts (now nodes) (now operands)) 0 (counts .nodes)) (now table) ⌝ }
+    ensures { λ _. ⌜ now (table .exit) ≡ countedAll (joined (itemsAt counts (now (nodes .entry)) (now (operands .entry))) 0 (counts .nodes)) (now (table .entry)) ⌝ }
+{
+    let mut k = 0;
+    while k < counts.nodes {
+        count_node(counts, nodes, operands, k, table);
+        k += 1;
+    }
+}
+
+// The entries that p producers make.
+fn count_producers(producers: &[u32], p: usize, table: &mut [u64])
+    requires { ⌜ (4 * p ≤ length (now producers)) × CountFits (joined (producerItems (now producers)) 0 p) (now table) ⌝ }
+    ensures { λ _. ⌜ now (table .exit) ≡ countedAll (joined (producerItems (now (producers .entry))) 0 p) (now (table .entry)) ⌝ }
+{
+    let mut i = 0;
+    while i < p {
+        let body = words::word(producers, 4 * i + 1);
+        if body != 0 {
+            count_one(table, body - 1);
+        }
+        i += 1;
+    }
+}
+
+// The entries that n root positions make.
+fn count_roots(roots: &[u32], n: usize, table: &mut [u64])
+    requires { ⌜ (n ≤ length (now roots)) × CountFits (joined (rootItems (now roots)) 0 n) (now table) ⌝ }
+    ensures { λ _. ⌜ now (table .exit) ≡ countedAll (joined (rootItems (now (roots .entry))) 0 n) (now (table .entry)) ⌝ }
+{
+    let mut i = 0;
+    while i < n {
+        count_one(table, words::word(roots, i));
+        i += 1;
+    }
+}
+
 // Each list's word counts its entries: the first pass over the incidences.
 fn count(
     counts: Counts,
@@ -238,15 +318,9 @@ fn count(
     requires { ⌜ Planned counts (now nodes) (now operands) (now roots) (now producers) p × (slots counts + 1 ≤ length (now table)) × Head (slots counts) (slots counts + 1) Zero (now table) (now table) ⌝ }
     ensures { λ _. ⌜ Head (slots counts) (slots counts + 1) (Counted (incidences counts (now (nodes .entry)) (now (operands .entry)) (now (roots .entry)) (now (producers .entry)) p)) (now (table .entry)) (now (table .exit)) ⌝ }
 {
-    let mut cursor = Cursor { unit: 0, index: 0 };
-    loop {
-        let step = next_incidence(counts, nodes, operands, roots, producers, p, cursor);
-        let Incidence::Next(slot, _, next) = step else {
-            return;
-        };
-        table[slot + 1] = table[slot + 1] + 1;
-        cursor = next;
-    }
+    count_nodes(counts, nodes, operands, table);
+    count_producers(producers, p, table);
+    count_roots(roots, counts.roots, table);
 }
 
 // Counts become starts: a list's word is the sum of those before it, from where entries begin.
