@@ -8,7 +8,7 @@ use mathlib.Core.List.{List, [], _∷_, _++_, map, map-id}
 use lib.Dec.{eqb}
 use lib.ListN.{getD, replicate}
 use borrow.Author.Tests.{eqb-true}
-use Rattle.base.specs.Each.{Each}
+use Rattle.base.specs.Each.{Each, each-append}
 use Rattle.base.specs.Places.{places, places-yes, places-no}
 use Rattle.theory.specs.Node.{nodeAt, operandsOf}
 use Rattle.theory.specs.declared.Counts.{Counts}
@@ -18,7 +18,7 @@ use Rattle.readers.specs.Readers.{occurrences, readingNode, readersOf}
 use Rattle.readers.specs.AtomNodes.{isAtomOf, atomNodesOf}
 use Rattle.readers.specs.Planned.{Planned}
 use Rattle.readers.specs.Proper.{Proper}
-use Rattle.readers.proofs.Walk.{each-append, each-joined}
+use Rattle.readers.proofs.Below.{each-joined}
 use Rattle.readers.proofs.Readers.{operands-lower}
 
 each-replicate : (P : ℕ → Type 0) (c x : ℕ) → (0 < c → P x) → Each P (replicate c x)

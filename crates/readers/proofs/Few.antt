@@ -17,7 +17,6 @@ use Rattle.theory.specs.declared.Node.the-variants.{Atom, False, Implies, And, 
 use Rattle.readers.specs.Joined.{joined, joined-more}
 use Rattle.readers.specs.Incidences.{Item, operandItems, nodeItems, bodyItems, producerItems, rootItems, incidences, entriesOf}
 use Rattle.readers.specs.Planned.{Planned}
-use Rattle.readers.specs.Cursor.{unitItems}
 use Rattle.readers.specs.Laid.{startOf}
 use Rattle.readers.specs.ReaderTable.{slots, readerWords}
 use Rattle.readers.proofs.Placement.{lists-few}
@@ -99,26 +98,7 @@ module _ (t : Counts) (nodes operands roots producers : List ℕ) (p : ℕ) (pla
         planned .few,
       )
 
-  pub unit-few : (u : ℕ) → length (unitItems t nodes operands roots producers p u) ≤ 2 + t .operands
-  unfolding unitItems
-  unit-few u = go (ltb u (t .nodes)) refl (ltb u (t .nodes + p))
-    where
-      go : (a : Bool) → ltb u (t .nodes) ≡ a → (b : Bool)
-          → length (cond a (itemsAt u) (cond b (producerItems producers (u - t .nodes)) (rootItems roots (u - (t .nodes + p))))) ≤ 2 + t .operands
-      go true e b =
-          let l : u < t .nodes = ltb-true u (t .nodes) e in
-          omega (
-            arith,
-            node-few (t .nodes) operands u (spanStart nodes u) (nodeAt nodes u),
-            end-formed t operands (spanStart nodes u) u (nodeAt nodes u) (planned .tables .formed u l) (span-starts u (omega arith)),
-          )
-      go false e true = omega (arith, producer-few producers (u - t .nodes))
-      go false e false = omega (arith, root-few roots (u - (t .nodes + p)))
-
   -- the lent table has room for all lists
   pub lists-room : startOf (λ s. entriesOf s (incidences t nodes operands roots producers p)) (slots t) (slots t) ≤ readerWords t
   unfolding startOf
   lists-room = omega (arith, lists-few (incidences t nodes operands roots producers p) (slots t), incidences-few)
-
-  pub table-room : (long : ℕ) → readerWords t ≤ long → startOf (λ s. entriesOf s (incidences t nodes operands roots producers p)) (slots t) (slots t) ≤ long
-  table-room long h = omega (arith, lists-room)

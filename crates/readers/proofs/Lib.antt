@@ -1,9 +1,7 @@
-pub mod Rest
 pub mod Steps
 pub mod Few
 pub mod Placement
 pub mod Pass
-pub mod Walk
 pub mod Below
 pub mod Readers
 pub mod Table

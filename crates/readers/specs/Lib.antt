@@ -7,7 +7,6 @@ pub mod AtomNodes
 pub mod ReaderTable
 pub mod Planned
 pub mod Proper
-pub mod Cursor
 pub mod LaidLaws
 pub mod Placement
 pub mod Pass

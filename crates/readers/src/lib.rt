@@ -1,13 +1,11 @@
 // The reader lists: who reads each node's truth. A port of tight/readers.rs.
 ghost use mathlib.Core.Path.{_≡_};
-ghost use mathlib.Core.List.{[], _∷_};
 ghost use Prim.Native.Nat.{_+_, _-_, _*_, _^_, _<_, _≤_};
 ghost use lib.ListN.{length, getD};
 ghost use Rattle.readers.specs.Reader.{nodeReader, producerReader, rootReader, readingOf};
-ghost use Rattle.readers.specs.Incidences.{item, atomSlot, operandItems, nodeItems, itemsAt, producerItems, rootItems, incidences, entriesOf};
+ghost use Rattle.readers.specs.Incidences.{atomSlot, nodeItems, itemsAt, producerItems, rootItems, incidences, entriesOf};
 ghost use Rattle.readers.specs.Joined.{joined};
-ghost use Rattle.readers.specs.Pass.{passed, Fits, Countable, counted, countedAll, CountFits};
-ghost use Rattle.readers.specs.Cursor.{listedAt, unitItems, units, At, Answers};
+ghost use Rattle.readers.specs.Pass.{passed, Fits, Countable, counted, countedAll, CountFits, Placeable, placed, placedAll, PlaceFits};
 ghost use Rattle.readers.specs.Laid.{laidOver, listAt, InOrder, inOrder};
 ghost use Rattle.readers.specs.Planned.{Planned};
 ghost use Rattle.readers.specs.Placement.{Head, total, Zero, Counted, Summed, Started};
@@ -65,153 +63,6 @@ impl Reader {
             _ => Reading::Unknown,
         }
     }
-}
-
-// Where a pass over the incidences stands: nodes, producers and root positions numbered through, and how many incidences of that one are behind.
-pub struct Cursor {
-    pub unit: usize,
-    pub index: usize,
-}
-
-// One incidence of a node, a producer or a root position: the list's number and the entry.
-pub enum Listed {
-    Entry(usize, u64),
-    Past,
-}
-
-// The next incidence and where the pass stands behind it.
-pub enum Incidence {
-    Next(usize, u64, Cursor),
-    Done,
-}
-
-// Incidence j of an And or Or: operand j of its span.
-fn operand_incidence(operands: &[u32], k: usize, start: usize, count: usize, j: usize) -> Listed
-    requires { ⌜ (start + count ≤ length (now operands)) × (k < 2 ^ 62) ⌝ }
-    ensures { λ r. ⌜ r ≡ listedAt (operandItems k (span (now (operands .entry)) start count)) j ⌝ }
-{
-    if j < count {
-        Listed::Entry(words::word(operands, start + j), Reader::node(k).0)
-    } else {
-        Listed::Past
-    }
-}
-
-// Incidence j of a node that reads two.
-fn implies_incidence(k: usize, left: usize, right: usize, j: usize) -> Listed
-    requires { ⌜ k < 2 ^ 62 ⌝ }
-    ensures { λ r. ⌜ r ≡ listedAt (operandItems k (left ∷ right ∷ [])) j ⌝ }
-{
-    match j {
-        0 => Listed::Entry(left, Reader::node(k).0),
-        1 => Listed::Entry(right, Reader::node(k).0),
-        _ => Listed::Past,
-    }
-}
-
-// Incidence j of what has a single one.
-fn only_incidence(slot: usize, entry: u64, j: usize) -> Listed
-    ensures { λ r. ⌜ r ≡ listedAt (item slot entry ∷ []) j ⌝ }
-{
-    if j == 0 {
-        Listed::Entry(slot, entry)
-    } else {
-        Listed::Past
-    }
-}
-
-// Incidence j of node k.
-fn node_incidence(counts: Counts, nodes: &[u32], operands: &[u32], k: usize, j: usize) -> Listed
-    requires { ⌜ (k < counts .nodes) × Limited counts × NodeTables counts (now nodes) (now operands) ⌝ }
-    ensures { λ r. ⌜ r ≡ listedAt (nodeItems (counts .nodes) (now (operands .entry)) k (nodeAt (now (nodes .entry)) k)) j ⌝ }
-{
-    match theory::view(nodes, k) {
-        Node::Atom(a) => only_incidence(counts.nodes + 1 + a, k as u64, j),
-        Node::False => Listed::Past,
-        Node::Implies(left, right) => implies_incidence(k, left, right, j),
-        Node::And(s, c) => operand_incidence(operands, k, s, c, j),
-        Node::Or(s, c) => operand_incidence(operands, k, s, c, j),
-        Node::Unknown => Listed::Past,
-    }
-}
-
-// Incidence j of producer i.
-fn producer_incidence(producers: &[u32], i: usize, j: usize) -> Listed
-    requires { ⌜ (4 * i + 1 < length (now producers)) × (i < 2 ^ 60) ⌝ }
-    ensures { λ r. ⌜ r ≡ listedAt (producerItems (now (producers .entry)) i) j ⌝ }
-{
-    let body = words::word(producers, 4 * i + 1);
-    if body == 0 {
-        Listed::Past
-    } else {
-        only_incidence(body - 1, Reader::producer(i).0, j)
-    }
-}
-
-// Incidence j of root position i.
-fn root_incidence(roots: &[u32], i: usize, j: usize) -> Listed
-    requires { ⌜ (i < length (now roots)) × (i < 2 ^ 62) ⌝ }
-    ensures { λ r. ⌜ r ≡ listedAt (rootItems (now (roots .entry)) i) j ⌝ }
-{
-    only_incidence(words::word(roots, i), Reader::root(i).0, j)
-}
-
-// Incidence j of number u: nodes, then p producers, then root positions.
-fn unit_incidence(
-    counts: Counts,
-    nodes: &[u32],
-    operands: &[u32],
-    roots: &[u32],
-    producers: &[u32],
-    p: usize,
-    u: usize,
-    j: usize,
-) -> Listed
-    requires { ⌜ Planned counts (now nodes) (now operands) (now roots) (now producers) p × (u < units counts p) ⌝ }
-    ensures { λ r. ⌜ r ≡ listedAt (unitItems counts (now (nodes .entry)) (now (operands .entry)) (now (roots .entry)) (now (producers .entry)) p u) j ⌝ }
-{
-    let n = counts.nodes;
-    if u < n {
-        return node_incidence(counts, nodes, operands, u, j);
-    }
-    if u < n + p {
-        return producer_incidence(producers, u - n, j);
-    }
-    root_incidence(roots, u - (n + p), j)
-}
-
-// The next incidence in order: nodes, then p producers, then root positions.
-fn next_incidence(
-    counts: Counts,
-    nodes: &[u32],
-    operands: &[u32],
-    roots: &[u32],
-    producers: &[u32],
-    p: usize,
-    cursor: Cursor,
-) -> Incidence
-    requires { ⌜ Planned counts (now nodes) (now operands) (now roots) (now producers) p × At counts (now nodes) (now operands) (now roots) (now producers) p (cursor .unit) (cursor .index) ⌝ }
-    ensures { λ r. ⌜ Answers counts (now (nodes .entry)) (now (operands .entry)) (now (roots .entry)) (now (producers .entry)) p (cursor .unit) (cursor .index) r ⌝ }
-{
-    let end = counts.nodes + p + counts.roots;
-    let mut unit = cursor.unit;
-    let mut index = cursor.index;
-    while unit < end {
-        let listed = unit_incidence(counts, nodes, operands, roots, producers, p, unit, index);
-        if let Listed::Entry(slot, entry) = listed {
-            return Incidence::Next(
-                slot,
-                entry,
-                Cursor {
-                    unit,
-                    index: index + 1,
-                },
-            );
-        }
-        unit += 1;
-        index = 0;
-    }
-    Incidence::Done
 }
 
 // The words of n lists begin: where entries begin, then 0 for each list.
@@ -338,6 +189,86 @@ fn sum(table: &mut [u64], n: usize)
     }
 }
 
+// One more entry stands where its list goes on.
+fn place_one(table: &mut [u64], slot: usize, entry: u64)
+    requires { ⌜ Placeable slot (now table) ⌝ }
+    ensures { λ _. ⌜ now (table .exit) ≡ placed slot entry (now (table .entry)) ⌝ }
+{
+    let at = words::word64(table, slot + 1);
+    table[at] = entry;
+    table[slot + 1] = (at + 1) as u64;
+}
+
+// A span's entries: node k, once for each operand.
+fn place_operands(operands: &[u32], start: usize, count: usize, k: usize, table: &mut [u64])
+    requires { ⌜ (start + count ≤ length (now operands)) × (k < 2 ^ 62) × Fits Placeable (λ o. placed o (nodeReader k)) (span (now operands) start count) (now table) ⌝ }
+    ensures { λ _. ⌜ now (table .exit) ≡ passed (λ o. placed o (nodeReader k)) (span (now (operands .entry)) start count) (now (table .entry)) ⌝ }
+{
+    let end = start + count;
+    let mut i = start;
+    while i < end {
+        place_one(table, words::word(operands, i), Reader::node(k).0);
+        i += 1;
+    }
+}
+
+// The entries that node k makes.
+fn place_node(counts: Counts, nodes: &[u32], operands: &[u32], k: usize, table: &mut [u64])
+    requires { ⌜ (k < counts .nodes) × Limited counts × NodeTables counts (now nodes) (now operands) × PlaceFits (nodeItems (counts .nodes) (now operands) k (nodeAt (now nodes) k)) (now table) ⌝ }
+    ensures { λ _. ⌜ now (table .exit) ≡ placedAll (nodeItems (counts .nodes) (now (operands .entry)) k (nodeAt (now (nodes .entry)) k)) (now (table .entry)) ⌝ }
+{
+    match theory::view(nodes, k) {
+        Node::Atom(a) => place_one(table, counts.nodes + 1 + a, k as u64),
+        Node::False => {}
+        Node::Implies(left, right) => {
+            place_one(table, left, Reader::node(k).0);
+            place_one(table, right, Reader::node(k).0);
+        }
+        Node::And(s, c) => place_operands(operands, s, c, k, table),
+        Node::Or(s, c) => place_operands(operands, s, c, k, table),
+        Node::Unknown => {}
+    }
+}
+
+// The entries that nodes make.
+fn place_nodes(counts: Counts, nodes: &[u32], operands: &[u32], table: &mut [u64])
+    requires { ⌜ Limited counts × NodeTables counts (now nodes) (now operands) × PlaceFits (joined (itemsAt counts (now nodes) (now operands)) 0 (counts .nodes)) (now table) ⌝ }
+    ensures { λ _. ⌜ now (table .exit) ≡ placedAll (joined (itemsAt counts (now (nodes .entry)) (now (operands .entry))) 0 (counts .nodes)) (now (table .entry)) ⌝ }
+{
+    let mut k = 0;
+    while k < counts.nodes {
+        place_node(counts, nodes, operands, k, table);
+        k += 1;
+    }
+}
+
+// The entries that p producers make.
+fn place_producers(producers: &[u32], p: usize, table: &mut [u64])
+    requires { ⌜ (4 * p ≤ length (now producers)) × PlaceFits (joined (producerItems (now producers)) 0 p) (now table) ⌝ }
+    ensures { λ _. ⌜ now (table .exit) ≡ placedAll (joined (producerItems (now (producers .entry))) 0 p) (now (table .entry)) ⌝ }
+{
+    let mut i = 0;
+    while i < p {
+        let body = words::word(producers, 4 * i + 1);
+        if body != 0 {
+            place_one(table, body - 1, Reader::producer(i).0);
+        }
+        i += 1;
+    }
+}
+
+// The entries that n root positions make.
+fn place_roots(roots: &[u32], n: usize, table: &mut [u64])
+    requires { ⌜ (n ≤ length (now roots)) × PlaceFits (joined (rootItems (now roots)) 0 n) (now table) ⌝ }
+    ensures { λ _. ⌜ now (table .exit) ≡ placedAll (joined (rootItems (now (roots .entry))) 0 n) (now (table .entry)) ⌝ }
+{
+    let mut i = 0;
+    while i < n {
+        place_one(table, words::word(roots, i), Reader::root(i).0);
+        i += 1;
+    }
+}
+
 // Each entry goes where its list goes on: the second pass over the incidences.
 fn place(
     counts: Counts,
@@ -351,17 +282,9 @@ fn place(
     requires { ⌜ Planned counts (now nodes) (now operands) (now roots) (now producers) p × (readerWords counts ≤ length (now table)) × Head (slots counts) (slots counts + 1) (Started (incidences counts (now nodes) (now operands) (now roots) (now producers) p) (slots counts)) (now table) (now table) ⌝ }
     ensures { λ _. ⌜ now (table .exit) ≡ laidOver (λ s. entriesOf s (incidences counts (now (nodes .entry)) (now (operands .entry)) (now (roots .entry)) (now (producers .entry)) p)) (slots counts) (now (table .entry)) ⌝ }
 {
-    let mut cursor = Cursor { unit: 0, index: 0 };
-    loop {
-        let step = next_incidence(counts, nodes, operands, roots, producers, p, cursor);
-        let Incidence::Next(slot, entry, next) = step else {
-            return;
-        };
-        let at = words::word64(table, slot + 1);
-        table[at] = entry;
-        table[slot + 1] = (at + 1) as u64;
-        cursor = next;
-    }
+    place_nodes(counts, nodes, operands, table);
+    place_producers(producers, p, table);
+    place_roots(roots, counts.roots, table);
 }
 
 // The reader table into the front of table, in two passes over the incidences.

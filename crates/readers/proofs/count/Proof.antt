@@ -1,4 +1,3 @@
-use native.Mathlib.Omega.{arith}
 use borrow.Author.Needs.{needs}
 use Rattle.readers.proofs.Pass.{left-all, nodes-fit, producers-fit, roots-fit, all-passed}
 use Rattle.readers.proofs.Table.{counts-fit}

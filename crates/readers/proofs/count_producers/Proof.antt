@@ -22,7 +22,7 @@ abbrev μ-loop : tie.MeasureT-loop
 turned : (c : tie.Joined1 Inv-loop μ-loop) → (length (c .if1 .table) ≡ length (c .before .before .before .loop .table)) × (c .if1 .table ≡ countedAll (producerItems (c .before .before .before .before .before .before .args .producers .now) (c .before .before .before .loop .i)) (c .before .before .before .loop .table))
 turned c =
     ⊎-elim
-    (λ w. (ap length (w .5) ∙ w .2 .kept .0, w .5 ∙ w .2 .ensures ∙ pass-one _ _ _ _ (body-one _ _ _ (c .before .word .ensures .0) (w .0 .taken))))
+    (λ w. (ap length (w .5) ∙ w .2 .kept .0, w .5 ∙ w .2 .ensures ∙ pass-one _ _ _ _ (body-one _ _ _ (c .before .word .ensures .0) _ refl (w .0 .taken))))
     (λ w. (ap length (w .1), w .1 ∙ pass-none _ _ _ (body-none _ _ _ (c .before .word .ensures .0) (w .0 .left))))
     (c .if1 .came)
 
@@ -42,7 +42,7 @@ sub-count-one : tie.Need-sub-count-one Inv-loop μ-loop
 sub-count-one c = search needs
 
 count-one-requires : tie.Need-count-one-requires Inv-loop μ-loop
-count-one-requires c κs = room-one _ _ _ _ _ (body-one _ _ _ (c .before .before .word .ensures .0) (c .before .if1 .taken)) (number-fits _ _ _ _ _ _ _ (c .before .before .before .before .loop .inv .1) (c .before .before .before .loop-test .taken))
+count-one-requires c κs = room-one _ _ _ _ _ (body-one _ _ _ (c .before .before .word .ensures .0) _ refl (c .before .if1 .taken)) (number-fits _ _ _ _ _ _ _ (c .before .before .before .before .loop .inv .1) (c .before .before .before .loop-test .taken))
 
 add-i : tie.Need-add-i Inv-loop μ-loop
 add-i c = search needs
