@@ -1,13 +1,10 @@
 -- How many incidences there are: at most two for each node, and one for each operand entry, producer and root position.
 -- Assumes nothing.
-use Prim.Native.Nat.{ℕ, zero, suc, _+_, _-_, _*_, _<_, _≤_}
+use Prim.Native.Nat.{ℕ, zero, suc, _+_, _*_, _<_, _≤_}
 use native.Mathlib.Omega.{arith}
-use mathlib.Core.Path.{_≡_, refl, ap}
-use mathlib.Core.Bool.{Bool, true, false, cond}
+use mathlib.Core.Path.{ap}
 use mathlib.Core.List.{List, [], _∷_, _++_}
-use lib.Dec.{ltb}
 use lib.ListN.{length, getD, drop, length-append, length-take}
-use borrow.Author.Tests.{ltb-true}
 use Rattle.theory.specs.Node.{nodeAt, span, operandsOf}
 use Rattle.theory.specs.Admission.{spanEnd, spanStart}
 use Rattle.theory.specs.WellFormed.{NodeFormed}
@@ -15,7 +12,7 @@ use Rattle.theory.specs.declared.Counts.{Counts}
 use Rattle.theory.specs.declared.Node.{Node}
 use Rattle.theory.specs.declared.Node.the-variants.{Atom, False, Implies, And, Or, Unknown}
 use Rattle.readers.specs.Joined.{joined, joined-more}
-use Rattle.readers.specs.Incidences.{Item, operandItems, nodeItems, bodyItems, producerItems, rootItems, incidences, entriesOf}
+use Rattle.readers.specs.Incidences.{Item, operandItems, nodeItems, itemsAt, bodyItems, producerItems, rootItems, incidences, entriesOf}
 use Rattle.readers.specs.Planned.{Planned}
 use Rattle.readers.specs.Laid.{startOf}
 use Rattle.readers.specs.ReaderTable.{slots, readerWords}
@@ -69,17 +66,14 @@ module _ (t : Counts) (nodes operands roots producers : List ℕ) (p : ℕ) (pla
   span-starts (suc k) h =
       end-formed t operands (spanStart nodes k) k (nodeAt nodes k) (planned .tables .formed k (omega arith)) (span-starts k (omega arith))
 
-  abbrev itemsAt : ℕ → List Item
-  itemsAt k = nodeItems (t .nodes) operands k (nodeAt nodes k)
-
-  nodes-few : (k : ℕ) → length (joined itemsAt 0 k) ≤ 2 * k + spanStart nodes k
+  nodes-few : (k : ℕ) → length (joined (itemsAt t nodes operands) 0 k) ≤ 2 * k + spanStart nodes k
   unfolding joined spanStart
   nodes-few zero = omega arith
   nodes-few (suc k) =
       omega (
         arith,
-        ap length (joined-more itemsAt k),
-        length-append (joined itemsAt 0 k) (itemsAt k),
+        ap length (joined-more (itemsAt t nodes operands) k),
+        length-append (joined (itemsAt t nodes operands) 0 k) (itemsAt t nodes operands k),
         node-few (t .nodes) operands k (spanStart nodes k) (nodeAt nodes k),
         nodes-few k,
       )
@@ -89,7 +83,7 @@ module _ (t : Counts) (nodes operands roots producers : List ℕ) (p : ℕ) (pla
   incidences-few =
       omega (
         arith,
-        length-append (joined itemsAt 0 (t .nodes)) (joined (producerItems producers) 0 p ++ joined (rootItems roots) 0 (t .roots)),
+        length-append (joined (itemsAt t nodes operands) 0 (t .nodes)) (joined (producerItems producers) 0 p ++ joined (rootItems roots) 0 (t .roots)),
         length-append (joined (producerItems producers) 0 p) (joined (rootItems roots) 0 (t .roots)),
         nodes-few (t .nodes),
         span-starts (t .nodes) (omega arith),

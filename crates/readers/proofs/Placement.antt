@@ -134,32 +134,32 @@ clear-more n i before words l room h =
 abbrev pub Counting : List Item → List Item → ℕ → ℕ → Type 0
 Counting all left s x = x + length (entriesOf s left) ≡ length (entriesOf s all)
 
-pub count-none : (n : ℕ) (all left : List Item) (before words : List ℕ) → left ≡ all → Head n (n + 1) Zero before words → Head n (n + 1) (Counting all left) before words
-count-none n all left before words q = head-map n (n + 1) _ _ before words (λ s x l z. omega (arith, ap (λ xs. length (entriesOf s xs)) q))
+pub count-none : (n : ℕ) (all : List Item) (before words : List ℕ) → Head n (n + 1) Zero before words → Head n (n + 1) (Counting all all) before words
+count-none n all before words = head-map n (n + 1) _ _ before words (λ s x l z. omega arith)
 
-pub count-done : (n : ℕ) (all left : List Item) (before words : List ℕ) → left ≡ [] → Head n (n + 1) (Counting all left) before words → Head n (n + 1) (Counted all) before words
+pub count-done : (n : ℕ) (all : List Item) (before words : List ℕ) → Head n (n + 1) (Counting all []) before words → Head n (n + 1) (Counted all) before words
 unfolding entriesOf
-count-done n all left before words q = head-map n (n + 1) _ _ before words (λ s x l z. omega (arith, ap (λ xs. length (entriesOf s xs)) q))
+count-done n all before words = head-map n (n + 1) _ _ before words (λ s x l z. omega arith)
 
-pub count-more : (n : ℕ) (all left rest : List Item) (before words : List ℕ) (s e : ℕ) → left ≡ item s e ∷ rest → s < n → n + 1 ≤ length before
-    → Head n (n + 1) (Counting all left) before words → Head n (n + 1) (Counting all rest) before (set words (s + 1) (getD words (s + 1) 0 + 1))
-count-more n all left rest before words s e q l room h =
+pub count-more : (n : ℕ) (all rest : List Item) (before words : List ℕ) (s e : ℕ) → s < n → n + 1 ≤ length before
+    → Head n (n + 1) (Counting all (item s e ∷ rest)) before words → Head n (n + 1) (Counting all rest) before (set words (s + 1) (getD words (s + 1) 0 + 1))
+count-more n all rest before words s e l room h =
     head-set n (n + 1) _ _ before words s _ l (omega arith) room h
-    (omega (arith, h .each s l, ap (λ xs. length (entriesOf s xs)) q, ap length (entries-here s e rest)))
-    (λ r x ne p. omega (arith, p, ap (λ xs. length (entriesOf r xs)) q, ap length (entries-other r s e rest ne)))
+    (omega (arith, h .each s l, ap length (entries-here s e rest)))
+    (λ r x ne p. omega (arith, p, ap length (entries-other r s e rest ne)))
 
 -- what is counted so far stays within the count
-pub count-room : (all left rest : List Item) (s e x : ℕ) → left ≡ item s e ∷ rest → Counting all left s x → x < length all
-count-room all left rest s e x q p = omega (arith, p, ap (λ xs. length (entriesOf s xs)) q, ap length (entries-here s e rest), entries-few s all)
+pub count-room : (all rest : List Item) (s e x : ℕ) → Counting all (item s e ∷ rest) s x → x < length all
+count-room all rest s e x p = omega (arith, p, ap length (entries-here s e rest), entries-few s all)
 
 -- all that is left is counted
 pub count-pass : (n : ℕ) (all left : List Item) (before words : List ℕ) → Each (Below n) left → n + 1 ≤ length before → length all < 2 ^ 62
     → Head n (n + 1) (Counting all left) before words → CountFits left words × Head n (n + 1) (Counted all) before (countedAll left words)
 unfolding passed Fits counted
-count-pass n all [] before words b room few h = (tt, count-done n all [] before words refl h)
+count-pass n all [] before words b room few h = (tt, count-done n all before words h)
 count-pass n all (x ∷ xs) before words b room few h =
-    let r = count-pass n all xs before (counted (x .slot) words) (b .1) room few (count-more n all (x ∷ xs) xs before words (x .slot) (x .entry) refl (b .0) room h) in
-    let below : getD words (x .slot + 1) 0 < length all = count-room all (x ∷ xs) xs (x .slot) (x .entry) _ refl (h .each (x .slot) (b .0)) in
+    let r = count-pass n all xs before (counted (x .slot) words) (b .1) room few (count-more n all xs before words (x .slot) (x .entry) (b .0) room h) in
+    let below : getD words (x .slot + 1) 0 < length all = count-room all xs (x .slot) (x .entry) _ (h .each (x .slot) (b .0)) in
     ((record { within = omega (arith, b .0, h .long); below = omega arith }, r .0), r .1)
 
 -- ---- sums
@@ -235,20 +235,22 @@ module _ (all : List Item) (n : ℕ) where
   abbrev start : ℕ → ℕ
   start s = startOf (λ r. entriesOf r all) n s
 
-  pub place-none : (left : List Item) (words : List ℕ) → left ≡ all → Head n (n + 1) (Started all n) words words → Placing all left n words words
-  place-none left words q h =
+  pub place-none : (words : List ℕ) → Head n (n + 1) (Started all n) words words → Placing all all n words words
+  place-none words h =
       record {
         head = record { first = h .first; each = λ s l. first s _ (h .each s l); behind = refl; long = refl };
         placed = λ s j l m. absurd (omega (arith, h .each s l));
       }
     where
-      first : (s x : ℕ) → Started all n s x → Filling all left n s x
+      first : (s x : ℕ) → Started all n s x → Filling all all n s x
       first s x e =
           let z : x - start s ≡ 0 = omega arith in
-          record { low = omega arith; high = omega (arith, start-more (λ r. entriesOf r all) n s); rest = ap (λ k. drop k (entriesOf s all)) z ∙ ap (entriesOf s) (sym q) }
+          record { low = omega arith; high = omega (arith, start-more (λ r. entriesOf r all) n s); rest = ap (λ k. drop k (entriesOf s all)) z }
 
-  module _ (left rest : List Item) (before words : List ℕ) (s e : ℕ) (q : left ≡ item s e ∷ rest) (l : s < n)
-      (room : start n ≤ length before) (h : Placing all left n before words) where
+  module _ (rest : List Item) (before words : List ℕ) (s e : ℕ) (l : s < n) (room : start n ≤ length before) (h : Placing all (item s e ∷ rest) n before words) where
+    abbrev left : List Item
+    left = item s e ∷ rest
+
     abbrev at : ℕ
     at = getD words (s + 1) 0
 
@@ -256,7 +258,7 @@ module _ (all : List Item) (n : ℕ) where
     fill = h .head .each s l
 
     next-entry : drop (at - start s) (entriesOf s all) ≡ e ∷ entriesOf s rest
-    next-entry = fill .rest ∙ ap (entriesOf s) q ∙ entries-here s e rest
+    next-entry = fill .rest ∙ entries-here s e rest
 
     pub place-room : at < start (s + 1)
     place-room =
@@ -303,7 +305,7 @@ module _ (all : List Item) (n : ℕ) where
               (head-write n (start n) (Filling all left n) (Filling all left n) before words at e
               (omega (arith, fill .low, start-least (λ r. entriesOf r all) n s)) (omega (arith, place-room, ends)) (h .head))
               (record { low = omega (arith, fill .low); high = omega (arith, place-room); rest = behind-entry })
-              (λ r x ne f. record { low = f .low; high = f .high; rest = f .rest ∙ ap (entriesOf r) q ∙ entries-other r s e rest ne });
+              (λ r x ne f. record { low = f .low; high = f .high; rest = f .rest ∙ entries-other r s e rest ne });
           placed = λ r j k m. ⊎-elim (λ same. here r j same k m) (λ ne. there r j k ne m) (equal-or r s);
         }
       where
@@ -333,16 +335,16 @@ module _ (all : List Item) (n : ℕ) where
             rw same (same-list j here-m)
 
   -- nothing left: the table is laid
-  pub place-done : (left : List Item) (before words : List ℕ) → left ≡ [] → start n ≤ length before → Placing all left n before words
+  pub place-done : (before words : List ℕ) → start n ≤ length before → Placing all [] n before words
       → words ≡ laidOver (λ r. entriesOf r all) n before
   unfolding laidOver
-  place-done left before words q room h =
+  place-done before words room h =
       laid-is (λ r. entriesOf r all) n words (omega (arith, h .head .long)) starts lists ∙ ap (λ r. laid (λ r. entriesOf r all) n ++ r) (h .head .behind ∙ ap (λ k. drop k before) (sym (length-laid (λ r. entriesOf r all) n)))
     where
       full : (s : ℕ) → s < n → getD words (s + 1) 0 ≡ start (s + 1)
       full s l =
           let f = h .head .each s l in
-          let none : drop (getD words (s + 1) 0 - start s) (entriesOf s all) ≡ [] = f .rest ∙ ap (entriesOf s) q ∙ (unfold entriesOf in refl) in
+          let none : drop (getD words (s + 1) 0 - start s) (entriesOf s all) ≡ [] = f .rest ∙ (unfold entriesOf in refl) in
           omega (arith, ap length none, length-drop (getD words (s + 1) 0 - start s) (entriesOf s all), f .low, f .high, start-more (λ r. entriesOf r all) n s)
 
       starts : (s : ℕ) → s ≤ n → getD words s 0 ≡ start s
@@ -356,8 +358,8 @@ module _ (all : List Item) (n : ℕ) where
 pub place-pass : (all : List Item) (n : ℕ) (left : List Item) (before words : List ℕ) → Each (Below n) left → startOf (λ r. entriesOf r all) n n ≤ length before
     → Placing all left n before words → PlaceFits left words × (placedAll left words ≡ laidOver (λ r. entriesOf r all) n before)
 unfolding passed Fits placed
-place-pass all n [] before words b room h = (tt, place-done all n [] before words refl room h)
+place-pass all n [] before words b room h = (tt, place-done all n before words room h)
 place-pass all n (x ∷ xs) before words b room h =
-    let r = place-pass all n xs before (placed (x .slot) (x .entry) words) (b .1) room (place-more all n (x ∷ xs) xs before words (x .slot) (x .entry) refl (b .0) room h) in
-    let there : getD words (x .slot + 1) 0 < length words = place-within all n (x ∷ xs) xs before words (x .slot) (x .entry) refl (b .0) room h in
+    let r = place-pass all n xs before (placed (x .slot) (x .entry) words) (b .1) room (place-more all n xs before words (x .slot) (x .entry) (b .0) room h) in
+    let there : getD words (x .slot + 1) 0 < length words = place-within all n xs before words (x .slot) (x .entry) (b .0) room h in
     ((record { within = omega (arith, b .0, h .head .long, start-least (λ r. entriesOf r all) n n); there = there }, r .0), r .1)

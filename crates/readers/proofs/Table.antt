@@ -2,7 +2,7 @@
 -- Assumes nothing.
 use Prim.Native.Nat.{ℕ, _+_, _-_, _^_, _<_, _≤_}
 use native.Mathlib.Omega.{arith}
-use mathlib.Core.Path.{_≡_, refl, ap, sym, _∙_}
+use mathlib.Core.Path.{_≡_, ap, sym, _∙_}
 use mathlib.Core.List.{List, _++_}
 use lib.ListN.{length, drop, length-append, length-drop}
 use lib.Seq.{drop-drop}
@@ -45,14 +45,14 @@ module _ (t : Counts) (nodes operands roots producers : List ℕ) (p : ℕ) (pla
   counts-fit words room h =
       count-pass (slots t) all all words words (all-below t nodes operands roots producers p planned) room
       (omega (arith, incidences-few t nodes operands roots producers p planned, planned .limited .nodes, planned .limited .operands, planned .limited .roots))
-      (count-none (slots t) all all words words refl h)
+      (count-none (slots t) all words words h)
 
   -- each incidence has a place, and with all placed the table is laid
   pub places-fit : (words : List ℕ) → readerWords t ≤ length words → Head (slots t) (slots t + 1) (Started all (slots t)) words words
       → PlaceFits all words × (placedAll all words ≡ laidOver (λ s. entriesOf s all) (slots t) words)
   places-fit words room h =
       place-pass all (slots t) all words words (all-below t nodes operands roots producers p planned)
-      (omega (arith, lists-room t nodes operands roots producers p planned)) (place-none all (slots t) all words refl h)
+      (omega (arith, lists-room t nodes operands roots producers p planned)) (place-none all (slots t) words h)
 
   pub sums-fit : (xs ys : List ℕ) → Head (slots t) (slots t + 1) (Counted all) xs ys → slots t + 1 + total ys (slots t) < 2 ^ 62
   sums-fit xs ys h =

@@ -31,15 +31,6 @@ module _ {A : Type 0} where
       let b : i + suc n ≡ i + 1 + n = omega arith in
       rw (a, b, append-assoc) (ap (λ r. f i ++ r) (joined-split f (i + 1) n m))
 
-  -- the numbers named from d on
-  pub joined-shift : (f g : ℕ → List A) (d i n : ℕ) → ((k : ℕ) → i ≤ k → k < i + n → f (d + k) ≡ g k) → joined f (d + i) n ≡ joined g i n
-  unfolding joined
-  joined-shift f g d i zero h = refl
-  joined-shift f g d i (suc n) h =
-      let a : d + i + 1 ≡ d + (i + 1) = omega arith in
-      ap₂ _++_ (h i (omega arith) (omega arith))
-      (ap (λ j. joined f j n) a ∙ joined-shift f g d (i + 1) n (λ k p q. h k (omega arith) (omega arith)))
-
   pub joined-first : (f : ℕ → List A) (i n : ℕ) → i < n → joined f i (n - i) ≡ f i ++ joined f (i + 1) (n - (i + 1))
   unfolding joined
   joined-first f i n l = let a : n - i ≡ suc (n - (i + 1)) = omega arith in rw a

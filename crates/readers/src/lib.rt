@@ -1,16 +1,16 @@
 // The reader lists: who reads each node's truth. A port of tight/readers.rs.
 ghost use mathlib.Core.Path.{_≡_};
-ghost use Prim.Native.Nat.{_+_, _-_, _*_, _^_, _<_, _≤_};
+ghost use Prim.Native.Nat.{_+_, _*_, _^_, _<_, _≤_};
 ghost use lib.ListN.{length, getD};
 ghost use Rattle.readers.specs.Reader.{nodeReader, producerReader, rootReader, readingOf};
-ghost use Rattle.readers.specs.Incidences.{atomSlot, nodeItems, itemsAt, producerItems, rootItems, incidences, entriesOf};
+ghost use Rattle.readers.specs.Incidences.{atomSlot, itemsAt, producerItems, rootItems, incidences, entriesOf};
 ghost use Rattle.readers.specs.Joined.{joined};
 ghost use Rattle.readers.specs.Pass.{passed, Fits, Countable, counted, countedAll, CountFits, Placeable, placed, placedAll, PlaceFits};
 ghost use Rattle.readers.specs.Laid.{laidOver, listAt, InOrder, inOrder};
 ghost use Rattle.readers.specs.Planned.{Planned};
 ghost use Rattle.readers.specs.Placement.{Head, total, Zero, Counted, Summed, Started};
 ghost use Rattle.readers.specs.ReaderTable.{slots, readerWords, built};
-ghost use Rattle.theory.specs.Node.{nodeAt, span};
+ghost use Rattle.theory.specs.Node.{span};
 ghost use Rattle.theory.specs.Limits.{Limited};
 ghost use Rattle.theory.specs.WellFormed.{NodeTables};
 use theory::Counts;
@@ -101,8 +101,8 @@ fn count_operands(operands: &[u32], start: usize, count: usize, table: &mut [u64
 
 // The entries that node k makes.
 fn count_node(counts: Counts, nodes: &[u32], operands: &[u32], k: usize, table: &mut [u64])
-    requires { ⌜ (k < counts .nodes) × Limited counts × NodeTables counts (now nodes) (now operands) × CountFits (nodeItems (counts .nodes) (now operands) k (nodeAt (now nodes) k)) (now table) ⌝ }
-    ensures { λ _. ⌜ now (table .exit) ≡ countedAll (nodeItems (counts .nodes) (now (operands .entry)) k (nodeAt (now (nodes .entry)) k)) (now (table .entry)) ⌝ }
+    requires { ⌜ (k < counts .nodes) × Limited counts × NodeTables counts (now nodes) (now operands) × CountFits (itemsAt counts (now nodes) (now operands) k) (now table) ⌝ }
+    ensures { λ _. ⌜ now (table .exit) ≡ countedAll (itemsAt counts (now (nodes .entry)) (now (operands .entry)) k) (now (table .entry)) ⌝ }
 {
     match theory::view(nodes, k) {
         Node::Atom(a) => count_one(table, counts.nodes + 1 + a),
@@ -214,8 +214,8 @@ fn place_operands(operands: &[u32], start: usize, count: usize, k: usize, table:
 
 // The entries that node k makes.
 fn place_node(counts: Counts, nodes: &[u32], operands: &[u32], k: usize, table: &mut [u64])
-    requires { ⌜ (k < counts .nodes) × Limited counts × NodeTables counts (now nodes) (now operands) × PlaceFits (nodeItems (counts .nodes) (now operands) k (nodeAt (now nodes) k)) (now table) ⌝ }
-    ensures { λ _. ⌜ now (table .exit) ≡ placedAll (nodeItems (counts .nodes) (now (operands .entry)) k (nodeAt (now (nodes .entry)) k)) (now (table .entry)) ⌝ }
+    requires { ⌜ (k < counts .nodes) × Limited counts × NodeTables counts (now nodes) (now operands) × PlaceFits (itemsAt counts (now nodes) (now operands) k) (now table) ⌝ }
+    ensures { λ _. ⌜ now (table .exit) ≡ placedAll (itemsAt counts (now (nodes .entry)) (now (operands .entry)) k) (now (table .entry)) ⌝ }
 {
     match theory::view(nodes, k) {
         Node::Atom(a) => place_one(table, counts.nodes + 1 + a, k as u64),
