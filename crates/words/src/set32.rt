@@ -1,7 +1,9 @@
 // Sets of numbers in words of 32 bits.
 ghost use mathlib.Core.Path.{_≡_};
-ghost use Prim.Native.Nat.{_*_, _/_, _^_, _<_, _≤_};
-ghost use lib.ListN.{length};
+ghost use mathlib.Core.Bool.{not};
+ghost use Prim.Native.Nat.{ℕ, _+_, _*_, _/_, _^_, _<_, _≤_};
+ghost use lib.ListN.{length, getD};
+ghost use lib.Dec.{eqb};
 ghost use Rattle.base.specs.Places.{lowest};
 ghost use Rattle.words.specs.Bit.{bit};
 ghost use Rattle.words.specs.Sets.{member, inserted, removed};
@@ -78,4 +80,20 @@ fn next_word(words: &[u32], first: usize) -> usize
         q += 1;
     }
     32 * q
+}
+
+// Which of the 32 words from `first` on are not 0.
+pub fn nonzeros(words: &[u32], first: usize) -> u32
+    requires { ⌜ first + 32 ≤ length (now words) ⌝ }
+    ensures { λ r. ⌜ ((k : ℕ) → k < 32 → bit r k ≡ not (eqb (getD (now (words .entry)) (first + k) 0) 0)) ⌝ }
+{
+    let mut x = 0u32;
+    let mut k = 0;
+    while k < 32 {
+        if words[first + k] != 0 {
+            x = x | (1u32 << k);
+        }
+        k += 1;
+    }
+    x
 }
