@@ -2,6 +2,7 @@ pub mod Bit
 pub mod Changed
 pub mod Sets
 pub mod Next
+pub mod Block
 pub mod BitLaws
 pub mod SetLaws
 pub mod NextLaws

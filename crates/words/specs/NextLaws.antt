@@ -1,6 +1,6 @@
 -- The next member, found word by word, for every width w.
 -- Assumes nothing.
-use Prim.Native.Nat.{ℕ, _+_, _-_, _*_, _/_, _%_, _^_, _≤_, _<_}
+use Prim.Native.Nat.{ℕ, zero, suc, _+_, _-_, _*_, _/_, _%_, _^_, _≤_, _<_}
 use native.Mathlib.Nat.{div-add-mod', div-one, mod-lt, mul-comm, mul-add, mul-one, mul-le-mul-left, mul-div-right, mul-mod-right}
 use native.Mathlib.Omega.{arith}
 use mathlib.Core.Path.{_≡_, sym, ap, _∙_}
@@ -14,6 +14,7 @@ use Rattle.base.specs.Places.{Lowest, lowest-is, lowest-only, lowest-skip}
 use Rattle.words.specs.Bit.{bit}
 use Rattle.words.specs.Sets.{member}
 use Rattle.words.specs.Next.{next}
+use Rattle.words.specs.Block.{AllZero}
 use Rattle.words.specs.BitLaws.{bit-shift, bit-zero, trailing-is, trailing-below}
 
 -- the next member is the lowest from i on
@@ -104,3 +105,15 @@ module _ (w : ℕ) (ws : List ℕ) (q : ℕ) (p : 0 < w) (l : q < length ws) whe
   -- any other gives its lowest member
   pub next-hit : getD ws q 0 < 2 ^ w → (getD ws q 0 ≡ 0 → ⊥) → next w ws (w * q) ≡ w * q + trailingZeros w (getD ws q 0)
   next-hit s ne = next-here w ws (w * q) p (rw word l) (rw word s) (λ z. ne (sym first ∙ z)) ∙ rw first
+
+-- ---- words that are 0 are passed over
+
+module _ (w : ℕ) (ws : List ℕ) (p : 0 < w) where
+  skip-by : (n a e : ℕ) → a + n ≡ e → e ≤ length ws → AllZero ws a e → next w ws (w * a) ≡ next w ws (w * e)
+  skip-by zero a e q h z = let same : a ≡ e = omega arith in rw same
+  skip-by (suc n) a e q h z =
+      next-pass w ws a p (omega arith) (z a (omega arith) (omega arith))
+      ∙ skip-by n (a + 1) e (omega arith) h (λ k c d. z k (omega arith) d)
+
+  pub next-skip : (a e : ℕ) → a ≤ e → e ≤ length ws → AllZero ws a e → next w ws (w * a) ≡ next w ws (w * e)
+  next-skip a e l h z = skip-by (e - a) a e (omega arith) h z

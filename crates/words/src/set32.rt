@@ -1,6 +1,6 @@
 // Sets of numbers in words of 32 bits.
 ghost use mathlib.Core.Path.{_≡_};
-ghost use mathlib.Core.Bool.{not};
+ghost use mathlib.Core.Bool.{true, not};
 ghost use Prim.Native.Nat.{ℕ, _+_, _*_, _/_, _^_, _<_, _≤_};
 ghost use lib.ListN.{length, getD};
 ghost use lib.Dec.{eqb};
@@ -9,6 +9,7 @@ ghost use Rattle.words.specs.Bit.{bit};
 ghost use Rattle.words.specs.Sets.{member, inserted, removed};
 ghost use Rattle.words.specs.Changed.{changed};
 ghost use Rattle.words.specs.Next.{next};
+ghost use Rattle.words.specs.Block.{AllZero};
 
 pub fn has(words: &[u32], i: usize) -> bool
     requires { ⌜ i / 32 < length (now words) ⌝ }
@@ -65,21 +66,66 @@ pub fn next(words: &[u32], from: usize) -> usize
     from + u32::trailing_zeros(rest) as usize
 }
 
-// The same from the start of word `first` on.
+// The same from the start of word `first` on: four words one by one, for what stands near, then block by block.
 fn next_word(words: &[u32], first: usize) -> usize
     requires { ⌜ first ≤ length (now words) ⌝ }
     requires { ⌜ 32 * length (now words) < 2 ^ 64 ⌝ }
     ensures { λ r. ⌜ r ≡ next 32 (now (words .entry)) (32 * first) ⌝ }
 {
+    let near = first + 4;
     let mut q = first;
-    while q < words.len() {
+    while q < words.len() && q < near {
         let x = words[q];
         if x != 0 {
             return 32 * q + u32::trailing_zeros(x) as usize;
         }
         q += 1;
     }
-    32 * q
+    next_far(words, q)
+}
+
+// The same, whole blocks of 32 words first.
+fn next_far(words: &[u32], first: usize) -> usize
+    requires { ⌜ first ≤ length (now words) ⌝ }
+    requires { ⌜ 32 * length (now words) < 2 ^ 64 ⌝ }
+    ensures { λ r. ⌜ r ≡ next 32 (now (words .entry)) (32 * first) ⌝ }
+{
+    let q = skip(words, first);
+    if words.len() - q < 32 {
+        return next_rest(words, q);
+    }
+    let i = q + u32::trailing_zeros(nonzeros(words, q)) as usize;
+    32 * i + u32::trailing_zeros(words[i]) as usize
+}
+
+// The first block of 32 words from `first` on that is not all 0, or where fewer than 32 words are left.
+fn skip(words: &[u32], first: usize) -> usize
+    requires { ⌜ first ≤ length (now words) ⌝ }
+    ensures { λ r. ⌜ (r ≤ length (now (words .entry))) × (next 32 (now (words .entry)) (32 * r) ≡ next 32 (now (words .entry)) (32 * first)) × (r + 32 ≤ length (now (words .entry)) → AllZero (now (words .entry)) r (r + 32) → ⊥) ⌝ }
+{
+    let mut q = first;
+    while words.len() - q >= 32 {
+        if !block_empty(words, q) {
+            return q;
+        }
+        q += 32;
+    }
+    q
+}
+
+// Whether the 32 words from `first` on are all 0.
+fn block_empty(words: &[u32], first: usize) -> bool
+    requires { ⌜ first + 32 ≤ length (now words) ⌝ }
+    ensures { λ r. ⌜ (r ≡ true → AllZero (now (words .entry)) first (first + 32)) × (AllZero (now (words .entry)) first (first + 32) → r ≡ true) ⌝ }
+{
+    let end = first + 32;
+    let mut x = 0u32;
+    let mut q = first;
+    while q < end {
+        x = x | words[q];
+        q += 1;
+    }
+    x == 0
 }
 
 // Which of the 32 words from `first` on are not 0.
@@ -96,4 +142,21 @@ pub fn nonzeros(words: &[u32], first: usize) -> u32
         k += 1;
     }
     x
+}
+
+// The same as next_word, word by word to the end.
+fn next_rest(words: &[u32], first: usize) -> usize
+    requires { ⌜ first ≤ length (now words) ⌝ }
+    requires { ⌜ 32 * length (now words) < 2 ^ 64 ⌝ }
+    ensures { λ r. ⌜ r ≡ next 32 (now (words .entry)) (32 * first) ⌝ }
+{
+    let mut q = first;
+    while q < words.len() {
+        let x = words[q];
+        if x != 0 {
+            return 32 * q + u32::trailing_zeros(x) as usize;
+        }
+        q += 1;
+    }
+    32 * q
 }

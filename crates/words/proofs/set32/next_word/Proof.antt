@@ -1,19 +1,22 @@
-use lib.Count.{trailing-le}
-use Prim.Native.Nat.{_-_, _*_, _≤_}
+use borrow.Author.Needs.{needs}
 use native.Mathlib.Omega.{arith}
 use mathlib.Core.Path.{_≡_, sym, _∙_}
+use Prim.Native.Nat.{_-_, _*_, _≤_}
+use lib.Count.{trailing-le}
 use lib.ListN.{length, getD}
-use borrow.Author.Needs.{needs}
 use Rattle.words.specs.Next.{next}
-use Rattle.words.specs.NextLaws.{next-end, next-pass, next-hit}
+use Rattle.words.specs.NextLaws.{next-pass, next-hit}
 use Rattle.words.proofs.set32.next_word.Statement.{statement}
 use Rattle.words.proofs.set32.next_word.Tie as tie
 
 abbrev Inv-loop : tie.InvT-loop
-Inv-loop words first q₀ q = (q ≤ length words) × (next 32 words (32 * q) ≡ next 32 words (32 * first))
+Inv-loop words first near q₀ q = (q ≤ length words) × (next 32 words (32 * q) ≡ next 32 words (32 * first))
 
 abbrev μ-loop : tie.MeasureT-loop
-μ-loop words first q₀ q = length words - q
+μ-loop words first near q₀ q = length words - q
+
+add-near : tie.Need-add-near Inv-loop μ-loop
+add-near c = search needs
 
 loop-holds : tie.Need-loop-holds Inv-loop μ-loop
 loop-holds c = search needs
@@ -28,13 +31,13 @@ mul-result : tie.Need-mul-result Inv-loop μ-loop
 mul-result c = search needs
 
 cast-result : tie.Need-cast-result Inv-loop μ-loop
-cast-result c = omega (arith, trailing-le 32 (getD (c .before .before .before .before .args .words .now) (c .before .before .before .loop .q) 0))
+cast-result c = omega (arith, trailing-le 32 (getD (c .before .before .before .before .before .before .args .words .now) (c .before .before .before .before .loop .q) 0))
 
 add-result : tie.Need-add-result Inv-loop μ-loop
-add-result c = omega (arith, trailing-le 32 (getD (c .before .before .before .before .args .words .now) (c .before .before .before .loop .q) 0))
+add-result c = omega (arith, trailing-le 32 (getD (c .before .before .before .before .before .before .args .words .now) (c .before .before .before .before .loop .q) 0))
 
 returns : tie.Need-returns Inv-loop μ-loop
-returns c = sym (next-hit 32 (c .before .before .before .before .args .words .now) (c .before .before .before .loop .q) (omega arith) (c .before .before .loop-test .taken) (c .before .shared-slice-known .given (c .before .before .before .loop .q) .fits) (c .if1 .taken)) ∙ c .before .before .before .loop .inv .1
+returns c = sym (next-hit 32 (c .before .before .before .before .before .before .args .words .now) (c .before .before .before .before .loop .q) (omega arith) (c .before .before .before .loop-test .taken) (c .before .shared-slice-known2 .given (c .before .before .before .before .loop .q) .fits) (c .if2 .taken)) ∙ c .before .before .before .before .loop .inv .1
 
 add-q : tie.Need-add-q Inv-loop μ-loop
 add-q c = search needs
@@ -43,13 +46,13 @@ loop-less : tie.Need-loop-less Inv-loop μ-loop
 loop-less c = search needs
 
 loop-again : tie.Need-loop-again Inv-loop μ-loop
-loop-again c = (search needs, sym (next-pass 32 (c .before .before .before .before .args .words .now) (c .before .before .before .loop .q) (omega arith) (c .before .before .loop-test .taken) (c .if1 .left)) ∙ c .before .before .before .loop .inv .1)
+loop-again c = (search needs, sym (next-pass 32 (c .before .before .before .before .before .before .args .words .now) (c .before .before .before .before .loop .q) (omega arith) (c .before .before .before .loop-test .taken) (c .if2 .left)) ∙ c .before .before .before .before .loop .inv .1)
 
-mul-result-2 : tie.Need-mul-result-2 Inv-loop μ-loop
-mul-result-2 c = search needs
+next-far-requires : tie.Need-next-far-requires Inv-loop μ-loop
+next-far-requires c κs = search needs
 
 returns-2 : tie.Need-returns-2 Inv-loop μ-loop
-returns-2 c = sym (next-end 32 (c .before .before .args .words .now) (32 * c .before .loop .q) (omega arith)) ∙ c .before .loop .inv .1
+returns-2 c = c .next-far .ensures ∙ c .before .before .loop .inv .1
 
 pub next-word-spec : {M : Type 1} → statement M
 next-word-spec =
@@ -57,6 +60,7 @@ next-word-spec =
     (tie.spec
     Inv-loop
     μ-loop
+    add-near
     loop-holds
     mul-x
     shared-slice-read-x
@@ -67,5 +71,5 @@ next-word-spec =
     add-q
     loop-less
     loop-again
-    mul-result-2
+    next-far-requires
     returns-2)
