@@ -56,8 +56,12 @@ module _ (T : Tables) (ws : List ℕ) (i : ℕ) where
       unfolding step stepAt takenFrom
       taken t h = rw (found, h)
 
-      pub step-true : s ≡ True → (r : Taking) (after : List ℕ) → Steps T ws (takenFrom T k true e) r after → Steps T ws (step T i e) r after
-      step-true p r after h = rw (taken true (known True p)) h
-
-      pub step-false : s ≡ False → (r : Taking) (after : List ℕ) → Steps T ws (takenFrom T k false e) r after → Steps T ws (step T i e) r after
-      step-false p r after h = rw (taken false (known False p)) h
+      -- t is the truth that was seen
+      pub step-taken : (s ≡ Stray → ⊥) → (t : Bool) → ((x : Bool) → seenOf s ≡ some x → t ≡ x)
+          → (r : Taking) (after : List ℕ) → Steps T ws (takenFrom T k t e) r after → Steps T ws (step T i e) r after
+      step-taken ne t f r after h = rw (taken t (go s refl)) h
+        where
+          go : (x : Seen) → s ≡ x → seen T e k ≡ some t
+          go True p = known True p ∙ ap some (sym (f true (ap seenOf p)))
+          go False p = known False p ∙ ap some (sym (f false (ap seenOf p)))
+          go Stray p = absurd (ne p)

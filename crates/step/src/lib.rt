@@ -1,6 +1,7 @@
 // One step of a kept check: the lowest node of the worklist gets its truth, and its readers are told if that changed.
 ghost use mathlib.Core.Path.{_≡_};
-ghost use mathlib.Core.Bool.{true, false};
+ghost use mathlib.Core.Bool.{Bool, true, false};
+ghost use mathlib.Core.Option.{some};
 ghost use Prim.Native.Nat.{_+_, _*_, _<_, _≤_};
 ghost use lib.ListN.{length, set};
 ghost use Rattle.theory.specs.Limits.{Limited};
@@ -13,6 +14,7 @@ ghost use Rattle.kept.specs.Layout.{ofWords};
 ghost use Rattle.kept.specs.Step.{readerUpdated, readersUpdated, step};
 ghost use Rattle.kept_laws.specs.Given.{usedBy, sized, produced, told, walked};
 ghost use Rattle.kept_laws.specs.Wrote.{Wrote};
+ghost use Rattle.node_truth.specs.InWords.{seenOf};
 ghost use Rattle.step.specs.Steps.{Lent, settledTo, takenFrom, Steps};
 use node_truth::Seen;
 use readers::Reader;
@@ -170,6 +172,16 @@ fn lowest_queued(counts: Counts, kept: &[u32], from: usize) -> usize
     words::set32::next(&kept[at..end], from)
 }
 
+// The truth that was seen; of a stray node, false.
+fn is_true(seen: Seen) -> bool
+    ensures { λ r. ⌜ ((x : Bool) → seenOf seen ≡ some x → r ≡ x) ⌝ }
+{
+    match seen {
+        Seen::True => true,
+        _ => false,
+    }
+}
+
 // One step; the nodes below `from` have been gone over.
 pub fn step(
     counts: Counts,
@@ -191,9 +203,10 @@ pub fn step(
     if k >= counts.nodes {
         return Taking::Fault(0);
     }
-    match node_truth::node_truth(counts, nodes, operands, kept, k) {
-        Seen::Stray => Taking::Fault(k),
-        Seen::True => take(counts, made, producers, readers, kept, k, true),
-        Seen::False => take(counts, made, producers, readers, kept, k, false),
+    let seen = node_truth::node_truth(counts, nodes, operands, kept, k);
+    if let Seen::Stray = seen {
+        return Taking::Fault(k);
     }
+    let holds = is_true(seen);
+    take(counts, made, producers, readers, kept, k, holds)
 }
