@@ -1,10 +1,10 @@
 -- What the words of a kept evaluation say of a node and of an atom, and the cases of `Seen`.
 -- Assumes nothing.
 use Prim.Native.Nat.{ℕ, _+_, _/_, _%_}
-use mathlib.Core.Bool.{Bool, true, false, not, cond}
+use mathlib.Core.Bool.{Bool, true, false, not, cond, _&&_, _||_}
 use mathlib.Core.List.{List}
 use mathlib.Core.Option.{Option, some, none}
-use lib.Dec.{eqb, leb}
+use lib.Dec.{eqb, ltb, leb}
 use lib.ListN.{getD}
 use Rattle.theory.specs.Node.{span}
 use Rattle.theory.specs.declared.Counts.{Counts}
@@ -26,6 +26,14 @@ trueIn ws o = not (eqb (getD ws (16 + o) 0) 0)
 -- atom a is in the candidate
 unfoldable pub presentIn : Counts → List ℕ → ℕ → Bool
 presentIn t ws a = bit (getD ws (candidateAt t + a / 32) 0) (a % 32)
+
+-- atom a as a node
+unfoldable pub atomSeen : Counts → List ℕ → ℕ → Option Bool
+atomSeen t ws a = cond (ltb a (t .atoms)) (some (presentIn t ws a)) none
+
+-- Implies at node k
+unfoldable pub impliesSeen : ℕ → (ℕ → Bool) → ℕ → ℕ → Option Bool
+impliesSeen k v l r = cond (ltb l k && ltb r k) (some (not (v l) || v r)) none
 
 -- And or Or, in a table of `size` entries
 unfoldable pub spanSeen : ℕ → ℕ → (ℕ → Bool) → Bool → List ℕ → ℕ → ℕ → Option Bool

@@ -8,7 +8,7 @@ ghost use Rattle.theory.specs.Limits.{Limited};
 ghost use Rattle.theory.specs.Node.{nodeAt, span};
 ghost use Rattle.kept.specs.Seen.{groupSeen, nodeSeen};
 ghost use Rattle.kept_laws.specs.Given.{usedBy};
-ghost use Rattle.node_truth.specs.InWords.{seenOf, trueIn, presentIn, spanSeen};
+ghost use Rattle.node_truth.specs.InWords.{seenOf, trueIn, presentIn, atomSeen, impliesSeen, spanSeen};
 use theory::Counts;
 use theory::Node;
 
@@ -71,7 +71,7 @@ fn group_truth(
 }
 
 // The same of a span that may pass the table of `size` entries.
-fn span_truth(
+pub fn span_truth(
     operands: &[u32],
     size: usize,
     kept: &[u32],
@@ -89,28 +89,40 @@ fn span_truth(
     group_truth(operands, kept, k, start, count, decisive)
 }
 
+// Atom a.
+pub fn atom_truth(counts: Counts, kept: &[u32], a: usize) -> Seen
+    requires { ⌜ Limited counts × (usedBy counts ≤ length (now kept)) ⌝ }
+    ensures { λ r. ⌜ seenOf r ≡ atomSeen counts (now (kept .entry)) a ⌝ }
+{
+    if a >= counts.atoms {
+        return Seen::Stray;
+    }
+    known(present(counts, kept, a))
+}
+
+// Implies of left and right, at node k.
+pub fn implies_truth(kept: &[u32], k: usize, left: usize, right: usize) -> Seen
+    requires { ⌜ 16 + k ≤ length (now kept) ⌝ }
+    ensures { λ r. ⌜ seenOf r ≡ impliesSeen k (trueIn (now (kept .entry))) left right ⌝ }
+{
+    if left >= k {
+        return Seen::Stray;
+    }
+    if right >= k {
+        return Seen::Stray;
+    }
+    known(!holds(kept, left) || holds(kept, right))
+}
+
 // Node k.
 pub fn node_truth(counts: Counts, nodes: &[u32], operands: &[u32], kept: &[u32], k: usize) -> Seen
     requires { ⌜ Limited counts × (k < counts .nodes) × (3 * counts .nodes ≤ length (now nodes)) × (counts .operands ≤ length (now operands)) × (usedBy counts ≤ length (now kept)) ⌝ }
     ensures { λ r. ⌜ seenOf r ≡ nodeSeen counts (now (operands .entry)) (presentIn counts (now (kept .entry))) (trueIn (now (kept .entry))) k (nodeAt (now (nodes .entry)) k) ⌝ }
 {
     match theory::view(nodes, k) {
-        Node::Atom(a) => {
-            if a >= counts.atoms {
-                return Seen::Stray;
-            }
-            known(present(counts, kept, a))
-        }
+        Node::Atom(a) => atom_truth(counts, kept, a),
         Node::False => Seen::False,
-        Node::Implies(left, right) => {
-            if left >= k {
-                return Seen::Stray;
-            }
-            if right >= k {
-                return Seen::Stray;
-            }
-            known(!holds(kept, left) || holds(kept, right))
-        }
+        Node::Implies(left, right) => implies_truth(kept, k, left, right),
         Node::And(s, c) => span_truth(operands, counts.operands, kept, k, s, c, false),
         Node::Or(s, c) => span_truth(operands, counts.operands, kept, k, s, c, true),
         Node::Unknown => Seen::Stray,
