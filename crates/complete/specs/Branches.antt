@@ -6,14 +6,15 @@ use native.Mathlib.Omega.{arith}
 use mathlib.Core.Path.{_≡_, refl, ap, ap₂, sym, _∙_}
 use mathlib.Core.Bool.{Bool, true, false}
 use mathlib.Core.List.{List}
-use mathlib.Core.Option.{some, none}
+use mathlib.Core.Option.{Option, some, none}
 use lib.ListN.{length, getD, set}
 use borrow.Author.Tests.{eq-eqb, ne-eqb, lt-ltb, le-ltb, le-leb, lt-leb}
 use Rattle.theory.specs.Node.{nodeAt}
+use Rattle.theory.specs.declared.Node.{Node}
 use Rattle.kept.specs.Tables.{Tables, atomCount, nodeCount, rootAt, headAt, bodyAt}
-use Rattle.kept.specs.Evaluation.{Evaluation, truthAt, truthWord, bodyTrue}
-use Rattle.kept.specs.Parts.{withTruths, withSupport}
-use Rattle.kept.specs.Seen.{nodeSeen}
+use Rattle.kept.specs.Evaluation.{Evaluation, truthAt, present, truthWord, bodyTrue}
+use Rattle.kept.specs.Parts.{withSupport}
+use Rattle.kept.specs.Seen.{nodeSeen, seenBy}
 use Rattle.kept.specs.Step.{rootTurned}
 use Rattle.kept.specs.Layout.{ofWords, written, supportStart, used}
 use Rattle.kept.specs.LayoutLaws.{fits-of}
@@ -22,7 +23,7 @@ use Rattle.kept_laws.specs.Wrote.{Wrote, beside-same, wrote-some, wrote-none}
 use Rattle.node_truth.specs.InWords.{trueIn, presentIn}
 use Rattle.node_truth.specs.InWordsLaws.{true-in, seen-in}
 use Rattle.retained.specs.Changes.{missingTurned}
-use Rattle.complete.specs.Phases.{truthSet, counted, producerCounted, atomLaid, rootLaid}
+use Rattle.complete.specs.Phases.{Stored, truthSet, counted, producerCounted, atomLaid, rootLaid}
 
 module _ (T : Tables) (ws : List ℕ) (long : used T ≤ length ws) where
   abbrev e : Evaluation
@@ -33,18 +34,17 @@ module _ (T : Tables) (ws : List ℕ) (long : used T ≤ length ws) where
 
   -- ---- node k
 
-  module _ (k : ℕ) (l : k < nodeCount T) where
-    pub truth-stored : (t : Bool) → some t ≡ nodeSeen (T .counts) (T .operands) (presentIn (T .counts) ws) (trueIn ws) k (nodeAt (T .nodes) k)
-        → Wrote T ws (truthSet T k e) true (set ws (16 + k) (truthWord t))
-    unfolding truthSet
-    truth-stored t p =
-        wrote-some T ws (truthSet T k e) (set ws (16 + k) (truthWord t)) (withTruths e (set (e .truths) k (truthWord t)))
-        (rw (sym (p ∙ seen-in T ws long k l)))
-        (ap (λ w. set w (16 + k) (truthWord t)) (sym same) ∙ put-truth T ws long e (fits-of T ws long) k (truthWord t) l)
+  module _ (k : ℕ) (l : k < nodeCount T) (n : Node) (is : n ≡ nodeAt (T .nodes) k) where
+    read : (o : Option Bool) → o ≡ nodeSeen (T .counts) (T .operands) (presentIn (T .counts) ws) (trueIn ws) k n → seenBy T (present e) (truthAt e) k ≡ o
+    read o p = sym (p ∙ ap (nodeSeen (T .counts) (T .operands) (presentIn (T .counts) ws) (trueIn ws) k) is ∙ seen-in T ws long k l)
 
-    pub truth-stray : none ≡ nodeSeen (T .counts) (T .operands) (presentIn (T .counts) ws) (trueIn ws) k (nodeAt (T .nodes) k) → Wrote T ws (truthSet T k e) false ws
+    -- its truth o was read, then stored
+    pub truth-stored : (o : Option Bool) → o ≡ nodeSeen (T .counts) (T .operands) (presentIn (T .counts) ws) (trueIn ws) k n
+        → (ok : Bool) (after : List ℕ) → Stored ws k o ok after → Wrote T ws (truthSet T k e) ok after
     unfolding truthSet
-    truth-stray p = wrote-none T ws (truthSet T k e) ws (rw (sym (p ∙ seen-in T ws long k l))) (beside-same T ws)
+    truth-stored none p ok after s = rw (read none p) (s .0, rw (s .1) (beside-same T ws))
+    truth-stored (some t) p ok after s =
+        rw (read (some t) p) (s .0, s .1 ∙ ap (λ w. set w (16 + k) (truthWord t)) (sym same) ∙ put-truth T ws long e (fits-of T ws long) k (truthWord t) l)
 
   -- ---- producer p
 

@@ -1,6 +1,6 @@
 -- The phases of a fresh check as changes of an evaluation.
 -- Assumes nothing.
-use Prim.Native.Nat.{ℕ, suc}
+use Prim.Native.Nat.{ℕ, suc, _+_}
 use mathlib.Core.Path.{_≡_}
 use mathlib.Core.Bool.{Bool, true, false, cond, _&&_}
 use mathlib.Core.List.{List}
@@ -80,6 +80,11 @@ begun T truths candidate =
     }
 
 -- ---- truth
+
+-- the word of node k gets a truth that was read; ok tells whether there is one
+abbrev pub Stored : List ℕ → ℕ → Option Bool → Bool → List ℕ → Type 0
+Stored ws k none ok after = (ok ≡ false) × (after ≡ ws)
+Stored ws k (some t) ok after = (ok ≡ true) × (after ≡ set ws (16 + k) (truthWord t))
 
 -- node k by the lower ones
 unfoldable pub truthSet : Tables → ℕ → Evaluation → Option Evaluation

@@ -16,12 +16,13 @@ ghost use Rattle.kept.specs.Layout.{ofWords, written};
 ghost use Rattle.kept_laws.specs.Given.{supportAt, usedBy, sized, produced, rooted, planned};
 ghost use Rattle.kept_laws.specs.Halves.{half};
 ghost use Rattle.kept_laws.specs.Wrote.{Wrote};
-ghost use Rattle.node_truth.specs.InWords.{trueIn};
+ghost use Rattle.node_truth.specs.InWords.{seenOf, trueIn};
 ghost use Rattle.complete.specs.Laid.{Laid};
-ghost use Rattle.complete.specs.Phases.{viewed, summed, opened, emptied, withHalves, begun, truthSet, truthsLaid, producerCounted, supportLaid, atomLaid, missingLaid, rootLaid, rootsLaid, summarised, NoSupport, NoMissing, NoFalseRoots};
+ghost use Rattle.complete.specs.Phases.{viewed, summed, opened, emptied, withHalves, begun, Stored, truthSet, truthsLaid, producerCounted, supportLaid, atomLaid, missingLaid, rootLaid, rootsLaid, summarised, NoSupport, NoMissing, NoFalseRoots};
 use node_truth::Seen;
 use theory::Admission;
 use theory::Counts;
+use theory::Node;
 use theory::Refusal;
 
 // A part becomes the candidate's words of 32 bits.
@@ -83,12 +84,12 @@ fn reset(counts: Counts, candidate: &[u64], kept: &mut [u32])
     lay_candidate(counts, candidate, kept);
 }
 
-// Node k gets its truth; false if an entry met there is outside its table, or an operand not below it.
-fn lay_truth(counts: Counts, nodes: &[u32], operands: &[u32], kept: &mut [u32], k: usize) -> bool
-    requires { ⌜ Limited counts × (k < counts .nodes) × (3 * counts .nodes ≤ length (now nodes)) × (counts .operands ≤ length (now operands)) × (usedBy counts ≤ length (now kept)) ⌝ }
-    ensures { λ r. ⌜ ((T : Tables) → Wrote (viewed counts (now (nodes .entry)) (now (operands .entry)) T) (now (kept .entry)) (truthSet (viewed counts (now (nodes .entry)) (now (operands .entry)) T) k (ofWords (viewed counts (now (nodes .entry)) (now (operands .entry)) T) (now (kept .entry)))) r (now (kept .exit))) ⌝ }
+// Node k gets a truth that was read; false if none was.
+fn lay(kept: &mut [u32], k: usize, seen: Seen) -> bool
+    requires { ⌜ 16 + k < length (now kept) ⌝ }
+    ensures { λ r. ⌜ Stored (now (kept .entry)) k (seenOf seen) r (now (kept .exit)) ⌝ }
 {
-    match node_truth::node_truth(counts, nodes, operands, kept, k) {
+    match seen {
         Seen::True => {
             kept[16 + k] = 1;
             true
@@ -98,6 +99,33 @@ fn lay_truth(counts: Counts, nodes: &[u32], operands: &[u32], kept: &mut [u32], 
             true
         }
         Seen::Stray => false,
+    }
+}
+
+// Node k gets its truth; false if an entry met there is outside its table, or an operand not below it.
+fn lay_truth(counts: Counts, nodes: &[u32], operands: &[u32], kept: &mut [u32], k: usize) -> bool
+    requires { ⌜ Limited counts × (k < counts .nodes) × (3 * counts .nodes ≤ length (now nodes)) × (counts .operands ≤ length (now operands)) × (usedBy counts ≤ length (now kept)) ⌝ }
+    ensures { λ r. ⌜ ((T : Tables) → Wrote (viewed counts (now (nodes .entry)) (now (operands .entry)) T) (now (kept .entry)) (truthSet (viewed counts (now (nodes .entry)) (now (operands .entry)) T) k (ofWords (viewed counts (now (nodes .entry)) (now (operands .entry)) T) (now (kept .entry)))) r (now (kept .exit))) ⌝ }
+{
+    match theory::view(nodes, k) {
+        Node::Atom(a) => {
+            let seen = node_truth::atom_truth(counts, kept, a);
+            lay(kept, k, seen)
+        }
+        Node::False => lay(kept, k, Seen::False),
+        Node::Implies(left, right) => {
+            let seen = node_truth::implies_truth(kept, k, left, right);
+            lay(kept, k, seen)
+        }
+        Node::And(s, c) => {
+            let seen = node_truth::span_truth(operands, counts.operands, kept, k, s, c, false);
+            lay(kept, k, seen)
+        }
+        Node::Or(s, c) => {
+            let seen = node_truth::span_truth(operands, counts.operands, kept, k, s, c, true);
+            lay(kept, k, seen)
+        }
+        Node::Unknown => false,
     }
 }
 

@@ -1,54 +1,85 @@
-use Rattle.complete.specs.Branches.{truth-stored, truth-stray}
-use Rattle.node_truth.specs.InWords.{seenOf}
-use mathlib.Core.Bool.{true, false}
-use mathlib.Core.Path.{ap, sym, _∙_}
+use Rattle.complete.specs.Branches.{truth-stored}
 use Rattle.complete.specs.Phases.{viewed}
+use Rattle.node_truth.specs.InWords.{atomSeen, impliesSeen, spanSeen}
+use Rattle.kept.specs.Seen.{nodeSeen}
+use mathlib.Core.Option.{some, none}
+use mathlib.Core.Bool.{false}
+use mathlib.Core.Path.{refl, sym, _∙_}
+use native.Mathlib.Omega.{arith}
 use borrow.Author.Needs.{needs}
 use Rattle.complete.proofs.lay_truth.Statement.{statement}
 use Rattle.complete.proofs.lay_truth.Tie as tie
 use Rattle.complete.proofs.lay_truth.Reads as reads
 use Rattle.complete.proofs.lay_truth.Lts as lts
-use Rattle.node_truth.proofs.node_truth.Reads as node-truth-reads
+use Rattle.complete.proofs.lay.Reads as lay-reads
+use Rattle.node_truth.proofs.atom_truth.Reads as atom-truth-reads
+use Rattle.node_truth.proofs.implies_truth.Reads as implies-truth-reads
+use Rattle.node_truth.proofs.span_truth.Reads as span-truth-reads
+use Rattle.theory.proofs.view.Reads as view-reads
 
 -- src/lib.rt:110:11
-node-truth-requires : tie.Need-node-truth-requires
-node-truth-requires c κs = search needs
+view-requires : tie.Need-view-requires
+view-requires c κs = search needs
 
--- src/lib.rt:112:18
+-- src/lib.rt:111:20
+enum-known-a : tie.Need-enum-known-a
+enum-known-a c = search needs
+
+-- src/lib.rt:112:17
+atom-truth-requires : tie.Need-atom-truth-requires
+atom-truth-requires c κs = search needs
+
+-- src/lib.rt:113:13
+lay-requires : tie.Need-lay-requires
+lay-requires c κs = search needs
+
+-- src/lib.rt:115:28
 enum-told : tie.Need-enum-told
 enum-told c = search needs
 
--- src/lib.rt:112:18
-add-kept : tie.Need-add-kept
-add-kept c = search needs
+-- src/lib.rt:115:24
+lay-requires-2 : tie.Need-lay-requires-2
+lay-requires-2 c κs = search needs
 
--- src/lib.rt:112:13
-mul-kept : tie.Need-mul-kept
-mul-kept c = search needs
+-- src/lib.rt:116:23
+enum-known-left : tie.Need-enum-known-left
+enum-known-left c = search needs
 
--- src/lib.rt:112:13
-slice-write-kept : tie.Need-slice-write-kept
-slice-write-kept c = search needs
+-- src/lib.rt:117:17
+implies-truth-requires : tie.Need-implies-truth-requires
+implies-truth-requires c κs = search needs
 
--- src/lib.rt:116:18
+-- src/lib.rt:118:13
+lay-requires-3 : tie.Need-lay-requires-3
+lay-requires-3 c κs = search needs
+
+-- src/lib.rt:120:19
+enum-known-s : tie.Need-enum-known-s
+enum-known-s c = search needs
+
+-- src/lib.rt:121:17
+span-truth-requires : tie.Need-span-truth-requires
+span-truth-requires c κs = (omega (arith, c .before .before .before .before .before .before .before .before .pre), (rw (c .before .before .s .given .1) at (c .before .before .before .before .view .ensures .1)) .0, (rw (c .before .before .s .given .1) at (c .before .before .before .before .view .ensures .1)) .1, omega (arith, c .before .before .before .before .before .before .before .before .pre))
+
+-- src/lib.rt:122:13
+lay-requires-4 : tie.Need-lay-requires-4
+lay-requires-4 c κs = search needs
+
+-- src/lib.rt:124:18
+enum-known-s-2 : tie.Need-enum-known-s-2
+enum-known-s-2 c = search needs
+
+-- src/lib.rt:125:17
+span-truth-requires-2 : tie.Need-span-truth-requires-2
+span-truth-requires-2 c κs = (omega (arith, c .before .before .before .before .before .before .before .before .pre), (rw (c .before .before .s2 .given .1) at (c .before .before .before .before .view .ensures .1)) .0, (rw (c .before .before .s2 .given .1) at (c .before .before .before .before .view .ensures .1)) .1, omega (arith, c .before .before .before .before .before .before .before .before .pre))
+
+-- src/lib.rt:126:13
+lay-requires-5 : tie.Need-lay-requires-5
+lay-requires-5 c κs = search needs
+
+-- src/lib.rt:128:26
 enum-told-2 : tie.Need-enum-told-2
 enum-told-2 c = search needs
-
--- src/lib.rt:116:18
-add-kept-2 : tie.Need-add-kept-2
-add-kept-2 c = search needs
-
--- src/lib.rt:116:13
-mul-kept-2 : tie.Need-mul-kept-2
-mul-kept-2 c = search needs
-
--- src/lib.rt:116:13
-slice-write-kept-2 : tie.Need-slice-write-kept-2
-slice-write-kept-2 c = search needs
-
--- src/lib.rt:119:24
-enum-told-3 : tie.Need-enum-told-3
-enum-told-3 c = search needs
 
 -- src/lib.rt:106:1
 same-length : tie.Need-same-length
@@ -56,7 +87,8 @@ same-length c = search needs
 
 -- src/lib.rt:106:1
 returns : tie.Need-returns
-returns c = λ T. truth-stored (viewed (c .before .before .before .before .before .before .before .args .counts) (c .before .before .before .before .before .before .before .args .nodes .now) (c .before .before .before .before .before .before .before .args .operands .now) T) (c .before .before .before .before .before .before .before .args .kept .now) (c .before .before .before .before .before .before .before .pre .4) (c .before .before .before .before .before .before .before .args .k) (c .before .before .before .before .before .before .before .pre .1) true (sym (ap seenOf (c .enum-told .given .1)) ∙ c .before .before .node-truth .ensures)
+unfolding nodeSeen atomSeen
+returns c = λ T. truth-stored (viewed (c .before .before .before .before .before .before .before .before .before .before .before .before .before .args .counts) (c .before .before .before .before .before .before .before .before .before .before .before .before .before .args .nodes .now) (c .before .before .before .before .before .before .before .before .before .before .before .before .before .args .operands .now) T) (c .before .before .before .before .before .before .before .before .before .before .before .before .before .args .kept .now) (c .before .before .before .before .before .before .before .before .before .before .before .before .before .pre .4) (c .before .before .before .before .before .before .before .before .before .before .before .before .before .args .k) (c .before .before .before .before .before .before .before .before .before .before .before .before .before .pre .1) _ (sym (c .before .before .before .before .before .before .before .a .given .1) ∙ c .before .before .before .before .before .before .before .before .before .view .ensures .0) _ (c .before .before .before .before .atom-truth .ensures) _ _ (c .before .before .lay .ensures)
 
 -- src/lib.rt:106:1
 same-length-2 : tie.Need-same-length-2
@@ -64,7 +96,8 @@ same-length-2 c = search needs
 
 -- src/lib.rt:106:1
 returns-2 : tie.Need-returns-2
-returns-2 c = λ T. truth-stored (viewed (c .before .before .before .before .before .before .before .args .counts) (c .before .before .before .before .before .before .before .args .nodes .now) (c .before .before .before .before .before .before .before .args .operands .now) T) (c .before .before .before .before .before .before .before .args .kept .now) (c .before .before .before .before .before .before .before .pre .4) (c .before .before .before .before .before .before .before .args .k) (c .before .before .before .before .before .before .before .pre .1) false (sym (ap seenOf (c .enum-told2 .given .1)) ∙ c .before .before .node-truth .ensures)
+unfolding nodeSeen
+returns-2 c = λ T. truth-stored (viewed (c .before .before .before .before .before .before .before .before .before .before .args .counts) (c .before .before .before .before .before .before .before .before .before .before .args .nodes .now) (c .before .before .before .before .before .before .before .before .before .before .args .operands .now) T) (c .before .before .before .before .before .before .before .before .before .before .args .kept .now) (c .before .before .before .before .before .before .before .before .before .before .pre .4) (c .before .before .before .before .before .before .before .before .before .before .args .k) (c .before .before .before .before .before .before .before .before .before .before .pre .1) _ (sym (c .before .before .before .before .enum-told .given .1) ∙ c .before .before .before .before .before .before .view .ensures .0) (some false) refl _ _ (c .before .before .lay2 .ensures)
 
 -- src/lib.rt:106:1
 same-length-3 : tie.Need-same-length-3
@@ -72,25 +105,60 @@ same-length-3 c = search needs
 
 -- src/lib.rt:106:1
 returns-3 : tie.Need-returns-3
-returns-3 c = λ T. truth-stray (viewed (c .before .before .before .before .before .before .before .args .counts) (c .before .before .before .before .before .before .before .args .nodes .now) (c .before .before .before .before .before .before .before .args .operands .now) T) (c .before .before .before .before .before .before .before .args .kept .now) (c .before .before .before .before .before .before .before .pre .4) (c .before .before .before .before .before .before .before .args .k) (c .before .before .before .before .before .before .before .pre .1) (sym (ap seenOf (c .enum-told3 .given .1)) ∙ c .before .before .node-truth .ensures)
+unfolding nodeSeen impliesSeen
+returns-3 c = λ T. truth-stored (viewed (c .before .before .before .before .before .before .before .before .before .before .before .before .before .args .counts) (c .before .before .before .before .before .before .before .before .before .before .before .before .before .args .nodes .now) (c .before .before .before .before .before .before .before .before .before .before .before .before .before .args .operands .now) T) (c .before .before .before .before .before .before .before .before .before .before .before .before .before .args .kept .now) (c .before .before .before .before .before .before .before .before .before .before .before .before .before .pre .4) (c .before .before .before .before .before .before .before .before .before .before .before .before .before .args .k) (c .before .before .before .before .before .before .before .before .before .before .before .before .before .pre .1) _ (sym (c .before .before .before .before .before .before .before .left .given .1) ∙ c .before .before .before .before .before .before .before .before .before .view .ensures .0) _ (c .before .before .before .before .implies-truth .ensures) _ _ (c .before .before .lay3 .ensures)
+
+-- src/lib.rt:106:1
+same-length-4 : tie.Need-same-length-4
+same-length-4 c = search needs
+
+-- src/lib.rt:106:1
+returns-4 : tie.Need-returns-4
+unfolding nodeSeen spanSeen
+returns-4 c = λ T. truth-stored (viewed (c .before .before .before .before .before .before .before .before .before .before .before .before .before .args .counts) (c .before .before .before .before .before .before .before .before .before .before .before .before .before .args .nodes .now) (c .before .before .before .before .before .before .before .before .before .before .before .before .before .args .operands .now) T) (c .before .before .before .before .before .before .before .before .before .before .before .before .before .args .kept .now) (c .before .before .before .before .before .before .before .before .before .before .before .before .before .pre .4) (c .before .before .before .before .before .before .before .before .before .before .before .before .before .args .k) (c .before .before .before .before .before .before .before .before .before .before .before .before .before .pre .1) _ (sym (c .before .before .before .before .before .before .before .s .given .1) ∙ c .before .before .before .before .before .before .before .before .before .view .ensures .0) _ (c .before .before .before .before .span-truth .ensures) _ _ (c .before .before .lay4 .ensures)
+
+-- src/lib.rt:106:1
+same-length-5 : tie.Need-same-length-5
+same-length-5 c = search needs
+
+-- src/lib.rt:106:1
+returns-5 : tie.Need-returns-5
+unfolding nodeSeen spanSeen
+returns-5 c = λ T. truth-stored (viewed (c .before .before .before .before .before .before .before .before .before .before .before .before .before .args .counts) (c .before .before .before .before .before .before .before .before .before .before .before .before .before .args .nodes .now) (c .before .before .before .before .before .before .before .before .before .before .before .before .before .args .operands .now) T) (c .before .before .before .before .before .before .before .before .before .before .before .before .before .args .kept .now) (c .before .before .before .before .before .before .before .before .before .before .before .before .before .pre .4) (c .before .before .before .before .before .before .before .before .before .before .before .before .before .args .k) (c .before .before .before .before .before .before .before .before .before .before .before .before .before .pre .1) _ (sym (c .before .before .before .before .before .before .before .s2 .given .1) ∙ c .before .before .before .before .before .before .before .before .before .view .ensures .0) _ (c .before .before .before .before .span-truth2 .ensures) _ _ (c .before .before .lay5 .ensures)
+
+-- src/lib.rt:106:1
+returns-6 : tie.Need-returns-6
+unfolding nodeSeen
+returns-6 c = λ T. truth-stored (viewed (c .before .before .before .before .before .before .args .counts) (c .before .before .before .before .before .before .args .nodes .now) (c .before .before .before .before .before .before .args .operands .now) T) (c .before .before .before .before .before .before .args .kept .now) (c .before .before .before .before .before .before .pre .4) (c .before .before .before .before .before .before .args .k) (c .before .before .before .before .before .before .pre .1) _ (sym (c .enum-told2 .given .1) ∙ c .before .before .view .ensures .0) none refl _ _ (refl, refl)
 
 pub lay-truth-spec : {M : Type 1} → statement M
 lay-truth-spec =
     tie.close
     (tie.spec
-    node-truth-requires
+    view-requires
+    enum-known-a
+    atom-truth-requires
+    lay-requires
     enum-told
-    add-kept
-    mul-kept
-    slice-write-kept
+    lay-requires-2
+    enum-known-left
+    implies-truth-requires
+    lay-requires-3
+    enum-known-s
+    span-truth-requires
+    lay-requires-4
+    enum-known-s-2
+    span-truth-requires-2
+    lay-requires-5
     enum-told-2
-    add-kept-2
-    mul-kept-2
-    slice-write-kept-2
-    enum-told-3
     same-length
     returns
     same-length-2
     returns-2
     same-length-3
-    returns-3)
+    returns-3
+    same-length-4
+    returns-4
+    same-length-5
+    returns-5
+    returns-6)
