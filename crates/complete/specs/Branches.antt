@@ -1,4 +1,4 @@
--- What each branch of a step gives: of a node, a producer, an atom and a root.
+-- What each branch of a step gives: of a node, a producer and a root.
 -- Assumes nothing.
 use Prim.Native.Nat.{ℕ, zero, suc, _<_, _≤_, _+_, _-_}
 use native.Mathlib.Numerals.{add-one}
@@ -8,7 +8,7 @@ use mathlib.Core.Bool.{Bool, true, false}
 use mathlib.Core.List.{List}
 use mathlib.Core.Option.{Option, some, none}
 use lib.ListN.{length, getD, set}
-use borrow.Author.Tests.{eq-eqb, ne-eqb, lt-ltb, le-ltb, le-leb, lt-leb}
+use borrow.Author.Tests.{lt-ltb, le-ltb, le-leb, lt-leb}
 use Rattle.theory.specs.Node.{nodeAt}
 use Rattle.theory.specs.declared.Node.{Node}
 use Rattle.kept.specs.Tables.{Tables, atomCount, nodeCount, rootAt, headAt, bodyAt}
@@ -22,8 +22,7 @@ use Rattle.kept_laws.specs.Written.{written-same, put-truth, put-support, get-s
 use Rattle.kept_laws.specs.Wrote.{Wrote, beside-same, wrote-some, wrote-none}
 use Rattle.node_truth.specs.InWords.{trueIn, presentIn}
 use Rattle.node_truth.specs.InWordsLaws.{true-in, seen-in}
-use Rattle.retained.specs.Changes.{missingTurned}
-use Rattle.complete.specs.Phases.{Stored, truthSet, counted, producerCounted, atomLaid, rootLaid}
+use Rattle.complete.specs.Phases.{Stored, truthSet, counted, producerCounted, rootLaid}
 
 module _ (T : Tables) (ws : List ℕ) (long : used T ≤ length ws) where
   abbrev e : Evaluation
@@ -82,17 +81,6 @@ module _ (T : Tables) (ws : List ℕ) (long : used T ≤ length ws) where
       producer-passes t q r =
           wrote-some T ws (producerCounted T p e) ws e
           (entered ∙ rw (sym h, sym b, sym (body-in body m), sym q, r)) (sym same)
-
-  -- ---- atom a
-
-  module _ (a : ℕ) (l : a < atomCount T) where
-    pub atom-supported : (getD ws (supportStart T + a) 0 ≡ 0 → ⊥) → Wrote T ws (atomLaid T a e) true ws
-    unfolding atomLaid
-    atom-supported ne = wrote-some T ws (atomLaid T a e) ws e (rw (sym (get-support T ws long a l), ne-eqb (getD ws (supportStart T + a) 0) 0 ne)) (sym same)
-
-    pub atom-lacks : getD ws (supportStart T + a) 0 ≡ 0 → (ok : Bool) (after : List ℕ) → Wrote T ws (missingTurned T a true e) ok after → Wrote T ws (atomLaid T a e) ok after
-    unfolding atomLaid
-    atom-lacks z ok after w = rw (sym (get-support T ws long a l), eq-eqb (getD ws (supportStart T + a) 0) 0 z) w
 
   -- ---- root position p
 

@@ -9,5 +9,6 @@ pub mod SupportLaws
 pub mod SetLaws
 pub mod FreshLaws
 pub mod Branches
+pub mod Search
 pub mod Loops
 pub mod Sequel

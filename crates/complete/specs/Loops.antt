@@ -1,15 +1,13 @@
--- The loops over nodes, producers, roots and the candidate's atoms: how each begins, goes on, stops and ends.
+-- The loops over nodes, producers, roots and the atoms that lack support: how each begins, goes on, stops and ends.
 -- Assumes nothing.
-use Prim.Native.Nat.{ℕ, suc, _<_, _≤_, _+_}
-use native.Mathlib.Numerals.{add-one}
+use Prim.Native.Nat.{ℕ, suc, _<_, _≤_, _+_, _-_}
 use native.Mathlib.Omega.{arith}
-use mathlib.Core.Path.{_≡_, ap, ap₂, sym, _∙_}
+use mathlib.Core.Path.{_≡_, ap, sym, _∙_}
 use mathlib.Core.Bool.{Bool, true, false}
 use mathlib.Core.List.{List}
 use mathlib.Core.Option.{some}
 use lib.ListN.{length, replicate}
-use Rattle.words.specs.Next.{next}
-use Rattle.words.specs.NextLaws.{next-is}
+use Rattle.base.specs.Places.{Lowest}
 use Rattle.theory.specs.Admission.{firstRefusal}
 use Rattle.theory.specs.declared.Admission.the-variants.{Admitted, Refused}
 use Rattle.theory.specs.declared.Refusal.the-variants.{BadEntry}
@@ -20,12 +18,14 @@ use Rattle.kept.specs.Layout.{ofWords, written, used}
 use Rattle.kept.specs.LayoutLaws.{Fits, fits-of}
 use Rattle.kept_laws.specs.Written.{written-same, written-again}
 use Rattle.kept_laws.specs.Wrote.{Wrote, mid-holds}
+use Rattle.retained.specs.Changes.{missingTurned}
 use Rattle.complete.specs.Laid.{Laid}
-use Rattle.complete.specs.Phases.{truthSet, truthsLaid, producerCounted, supportLaid, atomLaid, missingLaid, rootLaid, rootsLaid}
+use Rattle.complete.specs.Phases.{truthSet, truthsLaid, producerCounted, supportLaid, lacks, missingLaid, rootLaid, rootsLaid}
 use Rattle.complete.specs.Runs.{Run, run-none, run-next, run-stop, run-done}
 use Rattle.complete.specs.TruthLaws.{risen, risen-none, risen-all, risen-fits, risen-turn}
 use Rattle.complete.specs.SupportLaws.{supplied, supplied-none, supplied-all, supplied-fits, supplied-turn}
-use Rattle.complete.specs.SetLaws.{failed, failed-none, failed-all, failed-fits, failed-turn, lacking, lacking-none, lacking-all, lacking-fits, lacking-next, lacking-jump, present-next}
+use Rattle.complete.specs.SetLaws.{failed, failed-none, failed-all, failed-fits, failed-turn, lacking, lacking-none, lacking-all, lacking-fits, lacking-next, lacking-jump}
+use Rattle.complete.specs.Search.{nextLacking, next-lacks}
 
 -- after the nodes, producers, roots below a number
 abbrev pub Truths : Tables → List ℕ → ℕ → List ℕ → Type 0
@@ -37,10 +37,10 @@ Supports T ws = Run T ws (T .made) (supplied T (ofWords T ws)) (producerEntry T)
 abbrev pub Fails : Tables → List ℕ → ℕ → List ℕ → Type 0
 Fails T ws = Run T ws (rootCount T) (failed T (ofWords T ws)) (rootEntry T)
 
--- the candidate's atoms below a are gone over, and a is the next
+-- the atoms below a that lack support are missing, and a is the next that lacks it
 pub record Lacks (T : Tables) (ws : List ℕ) (a : ℕ) (mid : List ℕ) : Type 0 where
   pub holds : mid ≡ written T ws (lacking T (ofWords T ws) a)
-  pub here : a < atomCount T → present (ofWords T ws) a ≡ true
+  pub here : a < atomCount T → lacks (ofWords T ws) a ≡ true
 
 module _ (T : Tables) (ws : List ℕ) (long : used T ≤ length ws) where
   abbrev e : Evaluation
@@ -94,37 +94,42 @@ module _ (T : Tables) (ws : List ℕ) (long : used T ≤ length ws) where
     pub fails-stop : ok ≡ false → (d : Evaluation) → Laid T ws (firstRefusal (rootEntry T) 0 (rootCount T)) d (Refused (BadEntry 0)) after
     fails-stop = run-stop T ws long (rootCount T) (failed T e) (rootEntry T) (rootLaid T) (λ j. 0) (λ k i. failed-fits T e fits k) p l (failed-turn T e p l) mid r ok after w
 
-  -- ---- the candidate's atoms
+  -- ---- the atoms that lack support
 
-  pub lacks-none : e .missing ≡ noMembers (atomCount T) → (a : ℕ) → a ≡ next 32 (e .candidate) 0 → Lacks T ws a ws
+  pub lacks-none : e .missing ≡ noMembers (atomCount T) → (a : ℕ) → a ≡ nextLacking (T .counts) ws 0 → Lacks T ws a ws
   lacks-none z a p =
+      let next : Lowest (lacks e) 0 (atomCount T - 0) a = rw p (next-lacks T ws long 0 (omega arith)) in
       record {
-        holds = sym (ap (written T ws) (ap (lacking T e) p ∙ sym (lacking-jump T e 0) ∙ lacking-none T e z) ∙ written-same T ws long);
-        here = λ l. ap (present e) p ∙ present-next T e (fits-of T ws long) 0 (rw p at l);
+        holds = sym (ap (written T ws) (sym (lacking-jump T e 0 (atomCount T - 0) a next) ∙ lacking-none T e z) ∙ written-same T ws long);
+        here = λ l. next .here (omega arith);
       }
 
   pub lacks-done : (a : ℕ) (mid : List ℕ) → Lacks T ws a mid → atomCount T ≤ a → mid ≡ written T ws (missingLaid T e)
   lacks-done a mid r l = r .holds ∙ ap (written T ws) (lacking-all T e a l)
 
-  module _ (a : ℕ) (l : a < atomCount T) (mid : List ℕ) (r : Lacks T ws a mid) (ok : Bool) (after : List ℕ) (w : Wrote T mid (atomLaid T a (ofWords T mid)) ok after) where
+  module _ (a : ℕ) (l : a < atomCount T) (mid : List ℕ) (r : Lacks T ws a mid) (ok : Bool) (after : List ℕ) (w : Wrote T mid (missingTurned T a true (ofWords T mid)) ok after) where
     gone : after ≡ written T ws (lacking T e (suc a))
     gone =
-        let held : ofWords T mid ≡ lacking T e a = mid-holds T ws mid (lacking T e a) long (lacking-fits T e (fits-of T ws long) a) (r .holds) in
-        let made : Wrote T mid (some (lacking T e (suc a))) ok after = rw (ap (atomLaid T a) held ∙ lacking-next T e a l (r .here l)) at w in
-        made .1 ∙ ap (λ x. written T x (lacking T e (suc a))) (r .holds) ∙ written-again T ws long (lacking T e a) (lacking-fits T e (fits-of T ws long) a) (lacking T e (suc a))
+        let held : ofWords T mid ≡ lacking T e a = mid-holds T ws mid (lacking T e a) long (lacking-fits T e fits a) (r .holds) in
+        let made : Wrote T mid (some (lacking T e (suc a))) ok after = rw (ap (missingTurned T a true) held ∙ lacking-next T e a l (r .here l)) at w in
+        made .1 ∙ ap (λ x. written T x (lacking T e (suc a))) (r .holds) ∙ written-again T ws long (lacking T e a) (lacking-fits T e fits a) (lacking T e (suc a))
 
-    still : ofWords T after .candidate ≡ e .candidate
+    -- the words that are sought through say the same of each atom
+    still : (j : ℕ) → lacks (ofWords T after) j ≡ lacks e j
     unfolding lacking
-    still = ap (λ x. x .candidate) (mid-holds T ws after (lacking T e (suc a)) long (lacking-fits T e (fits-of T ws long) (suc a)) gone)
+    still j = ap (λ x. lacks x j) (mid-holds T ws after (lacking T e (suc a)) long (lacking-fits T e fits (suc a)) gone)
 
-    pub lacks-next : (b : ℕ) → b ≡ next 32 (ofWords T after .candidate) (a + 1) → Lacks T ws b after
-    lacks-next b p =
-        let q : b ≡ next 32 (e .candidate) (suc a) = p ∙ ap₂ (next 32) still (add-one a) in
+    pub lacks-next : length after ≡ length ws → (b : ℕ) → b ≡ nextLacking (T .counts) after (a + 1) → Lacks T ws b after
+    lacks-next k b p =
+        let found : Lowest (lacks (ofWords T after)) (a + 1) (atomCount T - (a + 1)) b = rw p (next-lacks T after (rw k long) (a + 1) (omega arith)) in
+        let next : Lowest (lacks e) (suc a) (atomCount T - (a + 1)) b =
         record {
-          holds = gone ∙ ap (written T ws) (lacking-jump T e (suc a) ∙ ap (lacking T e) (sym q));
-          here = λ i. ap (present e) q ∙ present-next T e (fits-of T ws long) (suc a) (rw q at i);
+          from = omega (arith, found .from);
+          within = omega (arith, found .within);
+          before = λ j x y. sym (still j) ∙ found .before j (omega arith) y;
+          here = λ h. sym (still b) ∙ found .here (omega arith);
+        } in
+        record {
+          holds = gone ∙ ap (written T ws) (lacking-jump T e (suc a) (atomCount T - (a + 1)) b next);
+          here = λ i. next .here (omega arith);
         }
-
--- the next atom is not before it is sought
-pub next-later : (ws : List ℕ) (i b : ℕ) → b ≡ next 32 ws i → i ≤ b
-next-later ws i b p = omega (arith, next-is 32 ws i .from)

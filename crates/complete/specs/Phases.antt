@@ -19,7 +19,6 @@ use Rattle.kept.specs.Step.{rootTurned}
 use Rattle.kept.specs.Layout.{ofWords}
 use Rattle.kept_laws.specs.Given.{sized, planned}
 use Rattle.kept_laws.specs.Halves.{half}
-use Rattle.retained.specs.Changes.{missingTurned}
 
 -- ---- what a phase is lent
 
@@ -107,12 +106,9 @@ supportLaid T e = withSupport e (tabulate (atomCount T) (support T (truthAt e)))
 
 -- ---- missing atoms
 
+-- atom a is in the candidate and has no support
 abbrev pub lacks : Evaluation → ℕ → Bool
 lacks e a = present e a && eqb (getD (e .support) a 0) 0
-
--- atom a of the candidate
-unfoldable pub atomLaid : Tables → ℕ → Evaluation → Option Evaluation
-atomLaid T a e = cond (eqb (getD (e .support) a 0) 0) (missingTurned T a true e) (some e)
 
 unfoldable pub missingLaid : Tables → Evaluation → Evaluation
 missingLaid T e = withSupport e (e .support) (countedSet (lacks e) (atomCount T))

@@ -4,26 +4,24 @@ use Prim.Native.Nat.{ℕ, suc, _<_, _≤_}
 use native.Mathlib.Omega.{arith}
 use mathlib.Core.Path.{_≡_, refl, ap, sym, _∙_}
 use mathlib.Core.Logic.{inl, inr, ⊎-elim}
-use mathlib.Core.Bool.{Bool, true, false, cond, _&&_}
+use mathlib.Core.Bool.{Bool, true, false, cond}
 use mathlib.Core.Option.{some, none}
-use lib.Dec.{eqb, ltb}
-use lib.ListN.{getD}
+use lib.Dec.{ltb}
 use borrow.Author.Tests.{lt-ltb, le-ltb}
 use Rattle.base.specs.Tests.{below-or}
-use Rattle.words.specs.Next.{next}
-use Rattle.words.specs.NextLaws.{next-is}
+use Rattle.base.specs.Places.{Lowest}
 use Rattle.kept.specs.SetOfLaws.{length-setOf}
 use Rattle.kept.specs.CountedSet.{countedSet, withMember}
 use Rattle.kept.specs.CountedSetLaws.{counted-agree}
 use Rattle.kept.specs.Tables.{Tables, atomCount, nodeCount, rootCount, rootAt}
-use Rattle.kept.specs.Evaluation.{Evaluation, truthAt, present, noMembers, falseRoot}
+use Rattle.kept.specs.Evaluation.{Evaluation, truthAt, noMembers, falseRoot}
 use Rattle.kept.specs.Parts.{withSupport, withFalseRoots}
 use Rattle.kept.specs.Step.{rootTurned}
 use Rattle.kept.specs.Check.{rootEntry}
 use Rattle.kept.specs.LayoutLaws.{Fits}
 use Rattle.kept_laws.specs.Filling.{upTo, gathered-none, gathered-next, gathered-all}
 use Rattle.retained.specs.Changes.{missingTurned}
-use Rattle.complete.specs.Phases.{lacks, atomLaid, missingLaid, rootLaid, rootsLaid}
+use Rattle.complete.specs.Phases.{lacks, missingLaid, rootLaid, rootsLaid}
 use Rattle.complete.specs.Runs.{Turn}
 
 -- no member from k up to m
@@ -116,28 +114,15 @@ module _ (T : Tables) (e : Evaluation) where
         falseRoots = fits .falseRoots;
       }
 
-  -- atom a of the candidate
-  pub lacking-next : (a : ℕ) → a < atomCount T → present e a ≡ true → atomLaid T a (lacking a) ≡ some (lacking (suc a))
-  unfolding lacking atomLaid missingTurned
-  lacking-next a l p = go (eqb (getD (e .support) a 0) 0) refl
-    where
-      go : (b : Bool) → eqb (getD (e .support) a 0) 0 ≡ b → atomLaid T a (lacking a) ≡ some (lacking (suc a))
-      go true q =
-          let is : lacks e a ≡ true = rw (p, q) in
-          let next : withMember (atomCount T) (countedSet (upTo (lacks e) a) (atomCount T)) a true ≡ some (countedSet (upTo (lacks e) (suc a)) (atomCount T)) =
-          rw is at (gathered-next (lacks e) (atomCount T) a l) in
-          rw (q, next)
-      go false q = rw q (ap (λ s. some (withSupport e (e .support) s)) (gathered-jump (lacks e) (atomCount T) a (suc a) (omega arith) (λ j x y. none j (omega arith))))
-        where
-          none : (j : ℕ) → j ≡ a → lacks e j ≡ false
-          none j i = rw (i, p, q)
+  -- atom a lacks support
+  pub lacking-next : (a : ℕ) → a < atomCount T → lacks e a ≡ true → missingTurned T a true (lacking a) ≡ some (lacking (suc a))
+  unfolding lacking missingTurned
+  lacking-next a l is =
+      let next : withMember (atomCount T) (countedSet (upTo (lacks e) a) (atomCount T)) a true ≡ some (countedSet (upTo (lacks e) (suc a)) (atomCount T)) =
+      rw is at (gathered-next (lacks e) (atomCount T) a l) in
+      rw next
 
-  -- up to the candidate's next atom
-  pub lacking-jump : (i : ℕ) → lacking i ≡ lacking (next 32 (e .candidate) i)
+  -- r is the next that does
+  pub lacking-jump : (i n r : ℕ) → Lowest (lacks e) i n r → lacking i ≡ lacking r
   unfolding lacking
-  lacking-jump i =
-      ap (withSupport e (e .support)) (gathered-jump (lacks e) (atomCount T) i (next 32 (e .candidate) i) (next-is 32 (e .candidate) i .from)
-      (λ j a b. ap (λ x. x && eqb (getD (e .support) j 0) 0) (next-is 32 (e .candidate) i .before j a b)))
-
-  pub present-next : Fits T e → (i : ℕ) → next 32 (e .candidate) i < atomCount T → present e (next 32 (e .candidate) i) ≡ true
-  present-next fits i l = next-is 32 (e .candidate) i .here (omega (arith, fits .candidate, next-is 32 (e .candidate) i .from))
+  lacking-jump i n r p = ap (withSupport e (e .support)) (gathered-jump (lacks e) (atomCount T) i r (p .from) (p .before))

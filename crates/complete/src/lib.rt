@@ -5,8 +5,8 @@ ghost use lib.ListN.{length, getD};
 ghost use Rattle.formula.specs.Passes.{Within};
 ghost use Rattle.theory.specs.Admission.{orElse, firstRefusal};
 ghost use Rattle.theory.specs.Limits.{Limited};
+ghost use Rattle.words.specs.Bit.{bit};
 ghost use Rattle.words.specs.Sets.{member};
-ghost use Rattle.words.specs.Next.{next};
 ghost use Rattle.kept.specs.Tabulate.{tabulate};
 ghost use Rattle.kept.specs.SetOf.{words32, words64};
 ghost use Rattle.kept.specs.Tables.{Tables};
@@ -18,7 +18,8 @@ ghost use Rattle.kept_laws.specs.Halves.{half};
 ghost use Rattle.kept_laws.specs.Wrote.{Wrote};
 ghost use Rattle.node_truth.specs.InWords.{seenOf, trueIn};
 ghost use Rattle.complete.specs.Laid.{Laid};
-ghost use Rattle.complete.specs.Phases.{viewed, summed, opened, emptied, withHalves, begun, Stored, truthSet, truthsLaid, producerCounted, supportLaid, atomLaid, missingLaid, rootLaid, rootsLaid, summarised, NoSupport, NoMissing, NoFalseRoots};
+ghost use Rattle.complete.specs.Search.{lacksIn, nextLacking};
+ghost use Rattle.complete.specs.Phases.{viewed, summed, opened, emptied, withHalves, begun, Stored, truthSet, truthsLaid, producerCounted, supportLaid, missingLaid, rootLaid, rootsLaid, summarised, NoSupport, NoMissing, NoFalseRoots};
 use node_truth::Seen;
 use theory::Admission;
 use theory::Counts;
@@ -191,27 +192,59 @@ fn count_producers(counts: Counts, made: usize, producers: &[u32], kept: &mut [u
     Admission::Admitted
 }
 
-// The candidate's lowest atom from `from` on.
-fn next_present(counts: Counts, kept: &[u32], from: usize) -> usize
-    requires { ⌜ Limited counts × (usedBy counts ≤ length (now kept)) × (from ≤ counts .atoms) ⌝ }
-    ensures { λ r. ⌜ ((T : Tables) → r ≡ next 32 (ofWords (sized counts T) (now (kept .entry)) .candidate) from) ⌝ }
+// The atoms of word q of the candidate that have no support; all 32 are atoms.
+fn lacking(counts: Counts, kept: &[u32], q: usize) -> u32
+    requires { ⌜ Limited counts × (32 * q + 32 ≤ counts .atoms) × (usedBy counts ≤ length (now kept)) ⌝ }
+    ensures { λ r. ⌜ ((k : ℕ) → k < 32 → bit r k ≡ lacksIn counts (now (kept .entry)) (32 * q + k)) ⌝ }
 {
     let n = counts.nodes;
-    let at = 16 + n + (n + 31) / 32 + counts.atoms;
-    let end = at + (counts.atoms + 31) / 32;
-    words::set32::next(&kept[at..end], from)
+    let support = 16 + n + (n + 31) / 32;
+    let x = kept[support + counts.atoms + q];
+    if x == 0 {
+        return 0;
+    }
+    let supported = words::set32::nonzeros(kept, support + 32 * q);
+    (x | supported) ^ supported
 }
 
-// Atom a, which is in the candidate, is missing if it has no support.
-fn lay_atom(counts: Counts, kept: &mut [u32], a: usize) -> bool
+// Whether atom a is in the candidate and has no support.
+fn lacks(counts: Counts, kept: &[u32], a: usize) -> bool
     requires { ⌜ Limited counts × (a < counts .atoms) × (usedBy counts ≤ length (now kept)) ⌝ }
-    ensures { λ r. ⌜ ((T : Tables) → Wrote (sized counts T) (now (kept .entry)) (atomLaid (sized counts T) a (ofWords (sized counts T) (now (kept .entry)))) r (now (kept .exit))) ⌝ }
+    ensures { λ r. ⌜ r ≡ lacksIn counts (now (kept .entry)) a ⌝ }
 {
     let n = counts.nodes;
-    if kept[16 + n + (n + 31) / 32 + a] != 0 {
-        return true;
+    node_truth::present(counts, kept, a) && kept[16 + n + (n + 31) / 32 + a] == 0
+}
+
+// The lowest atom from `from` on that is in the candidate and has no support, atom by atom.
+fn next_single(counts: Counts, kept: &[u32], from: usize) -> usize
+    requires { ⌜ Limited counts × (from ≤ counts .atoms) × (usedBy counts ≤ length (now kept)) ⌝ }
+    ensures { λ r. ⌜ r ≡ nextLacking counts (now (kept .entry)) from ⌝ }
+{
+    let mut a = from;
+    while a < counts.atoms {
+        if lacks(counts, kept, a) {
+            return a;
+        }
+        a += 1;
     }
-    retained::missing(counts, kept, a, true)
+    a
+}
+
+// The same, 32 atoms at a time.
+fn next_lacking(counts: Counts, kept: &[u32], from: usize) -> usize
+    requires { ⌜ Limited counts × (from ≤ counts .atoms) × (usedBy counts ≤ length (now kept)) ⌝ }
+    ensures { λ r. ⌜ r ≡ nextLacking counts (now (kept .entry)) from ⌝ }
+{
+    let mut a = from;
+    while a / 32 < counts.atoms / 32 {
+        let x = lacking(counts, kept, a / 32) >> (a % 32);
+        if x != 0 {
+            return a + u32::trailing_zeros(x) as usize;
+        }
+        a = a / 32 * 32 + 32;
+    }
+    next_single(counts, kept, a)
 }
 
 // The missing atoms, where there was none.
@@ -219,10 +252,10 @@ fn lay_missing(counts: Counts, kept: &mut [u32])
     requires { ⌜ Limited counts × (usedBy counts ≤ length (now kept)) × NoMissing counts (now kept) ⌝ }
     ensures { λ _. ⌜ ((T : Tables) → now (kept .exit) ≡ written (sized counts T) (now (kept .entry)) (missingLaid (sized counts T) (ofWords (sized counts T) (now (kept .entry))))) ⌝ }
 {
-    let mut a = next_present(counts, kept, 0);
+    let mut a = next_lacking(counts, kept, 0);
     while a < counts.atoms {
-        lay_atom(counts, kept, a);
-        a = next_present(counts, kept, a + 1);
+        retained::missing(counts, kept, a, true);
+        a = next_lacking(counts, kept, a + 1);
     }
 }
 
