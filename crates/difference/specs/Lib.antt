@@ -1,0 +1,4 @@
+pub mod ChangedLaws
+pub mod Marks
+pub mod PairLaws
+pub mod BlockLaws

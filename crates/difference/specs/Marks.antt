@@ -1,0 +1,23 @@
+-- Where the kept candidate and the new one are seen to agree.
+-- Assumes nothing.
+use Prim.Native.Nat.{ℕ, _<_, _≤_, _+_, _*_, _/_}
+use mathlib.Core.Path.{_≡_}
+use mathlib.Core.Bool.{false}
+use mathlib.Core.List.{List}
+use lib.ListN.{getD}
+use Rattle.words.specs.Bit.{bit}
+use Rattle.theory.specs.declared.Counts.{Counts}
+use Rattle.kept_laws.specs.Given.{candidateAt}
+use Rattle.kept_laws.specs.Halves.{half}
+
+-- word i of the kept candidate, whose words begin at `at`, is that of the new one
+abbrev pub Same : ℕ → List ℕ → List ℕ → ℕ → Type 0
+Same at kept new i = getD kept (at + i) 0 ≡ half new i
+
+-- so are those of pairs `first` to `end`
+abbrev pub SameFrom : ℕ → List ℕ → List ℕ → ℕ → ℕ → Type 0
+SameFrom at kept new first end = (i : ℕ) → 2 * first ≤ i → i < 2 * end → Same at kept new i
+
+-- each word of the whole pairs is the same unless its block of 32 words is marked
+abbrev pub Marked : Counts → List ℕ → List ℕ → ℕ → Type 0
+Marked t kept new blocks = (i : ℕ) → i < 2 * (t .atoms / 64) → bit blocks (i / 32) ≡ false → Same (candidateAt t) kept new i

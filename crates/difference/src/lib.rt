@@ -1,0 +1,181 @@
+// How the kept candidate and the new one differ: the first pass of `update` in tight/evaluate.rs.
+ghost use mathlib.Core.Path.{_≡_};
+ghost use mathlib.Core.Bool.{true};
+ghost use Prim.Native.Nat.{_+_, _*_, _%_, _<_, _≤_, min};
+ghost use lib.ListN.{length, getD};
+ghost use Rattle.theory.specs.Limits.{Limited};
+ghost use Rattle.words.specs.Changed.{changed};
+ghost use Rattle.words.specs.Sets.{member};
+ghost use Rattle.kept.specs.SetOf.{words64};
+ghost use Rattle.kept.specs.Tables.{Tables};
+ghost use Rattle.kept.specs.Layout.{ofWords};
+ghost use Rattle.kept.specs.Check.{changes};
+ghost use Rattle.kept_laws.specs.Given.{usedBy, sized};
+ghost use Rattle.kept_laws.specs.Halves.{half};
+ghost use Rattle.difference.specs.ChangedLaws.{wordChanges};
+ghost use Rattle.difference.specs.Marks.{Same, SameFrom, Marked};
+ghost use Rattle.difference.specs.BlockLaws.{Upto};
+use theory::Counts;
+
+// How many atoms differ, and in which blocks of 1,024 atoms: place b of `blocks` is set if one of the pairs 16 b to 16 b + 15 may differ.
+pub struct Changes {
+    pub count: usize,
+    pub blocks: u64,
+}
+
+// The smaller of two numbers.
+pub fn smaller(a: usize, b: usize) -> usize
+    ensures { λ r. ⌜ r ≡ min a b ⌝ }
+{
+    if a < b { a } else { b }
+}
+
+// Words i and i + 1 as one.
+fn pair(kept: &[u32], i: usize) -> u64
+    requires { ⌜ i + 1 < length (now kept) ⌝ }
+    ensures { λ r. ⌜ r ≡ getD (now (kept .entry)) i 0 + getD (now (kept .entry)) (i + 1) 0 * 4294967296 ⌝ }
+{
+    (kept[i] as u64) + (kept[i + 1] as u64) * 0x1_0000_0000
+}
+
+// Whether two words of the kept candidate, at places 2 j and 2 j + 1 from `at` on, are word j of the new one.
+pub fn same_pair(candidate: &[u64], kept: &[u32], at: usize, j: usize) -> bool
+    requires { ⌜ (j < length (now candidate)) × (at + 2 * j + 1 < length (now kept)) ⌝ }
+    ensures { λ r. ⌜ (r ≡ true → Same at (now (kept .entry)) (now (candidate .entry)) (2 * j) × Same at (now (kept .entry)) (now (candidate .entry)) (2 * j + 1)) ⌝ }
+{
+    pair(kept, at + 2 * j) == candidate[j]
+}
+
+// At how many atoms word i differs.
+fn word_changes(candidate: &[u64], kept: &[u32], at: usize, i: usize) -> usize
+    requires { ⌜ (i < 2 * length (now candidate)) × (at + i < length (now kept)) ⌝ }
+    ensures { λ r. ⌜ r ≡ changed 32 (getD (now (kept .entry)) (at + i) 0) (half (now (candidate .entry)) i) ⌝ }
+{
+    let new = retained::half_word(candidate, i);
+    if kept[at + i] == new {
+        return 0;
+    }
+    words::set32::changed(kept[at + i], new) as usize
+}
+
+// At how many atoms pair j differs.
+fn pair_changes(candidate: &[u64], kept: &[u32], at: usize, j: usize) -> usize
+    requires { ⌜ (j < length (now candidate)) × (at + 2 * j + 1 < length (now kept)) ⌝ }
+    ensures { λ r. ⌜ wordChanges at (now (kept .entry)) (now (candidate .entry)) (2 * j) + r ≡ wordChanges at (now (kept .entry)) (now (candidate .entry)) (2 * (j + 1)) ⌝ }
+{
+    if same_pair(candidate, kept, at, j) {
+        return 0;
+    }
+    word_changes(candidate, kept, at, 2 * j) + word_changes(candidate, kept, at, 2 * j + 1)
+}
+
+// At how many atoms pairs `first` to `end` differ.
+fn pairs_changes(candidate: &[u64], kept: &[u32], at: usize, first: usize, end: usize) -> usize
+    requires { ⌜ (first ≤ end) × (end ≤ 1024) × (end ≤ length (now candidate)) × (at + 2 * end ≤ length (now kept)) ⌝ }
+    ensures { λ r. ⌜ wordChanges at (now (kept .entry)) (now (candidate .entry)) (2 * first) + r ≡ wordChanges at (now (kept .entry)) (now (candidate .entry)) (2 * end) ⌝ }
+{
+    let mut sum = 0;
+    let mut j = first;
+    while j < end {
+        sum = sum + pair_changes(candidate, kept, at, j);
+        j += 1;
+    }
+    sum
+}
+
+// Whether the 16 pairs from `first` on are all the same; no branch in the loop, so that several are compared at once.
+fn same_block(candidate: &[u64], kept: &[u32], at: usize, first: usize) -> bool
+    requires { ⌜ (first + 16 ≤ length (now candidate)) × (at + 2 * (first + 16) ≤ length (now kept)) ⌝ }
+    ensures { λ r. ⌜ (r ≡ true → SameFrom at (now (kept .entry)) (now (candidate .entry)) first (first + 16)) ⌝ }
+{
+    let end = first + 16;
+    let mut d = 0u64;
+    let mut j = first;
+    while j < end {
+        d = d | (candidate[j] ^ pair(kept, at + 2 * j));
+        j += 1;
+    }
+    d == 0
+}
+
+// Whether pairs `first` to `end`, 16 at most, are seen to be the same: where they are fewer they are not looked at.
+fn same_pairs(candidate: &[u64], kept: &[u32], at: usize, first: usize, end: usize) -> bool
+    requires { ⌜ (first ≤ end) × (end ≤ first + 16) × (end ≤ length (now candidate)) × (at + 2 * end ≤ length (now kept)) ⌝ }
+    ensures { λ r. ⌜ (r ≡ true → SameFrom at (now (kept .entry)) (now (candidate .entry)) first end) ⌝ }
+{
+    if end - first < 16 {
+        return false;
+    }
+    same_block(candidate, kept, at, first)
+}
+
+// `d` with pairs `first` to `end` more, a block of them.
+fn with_block(
+    candidate: &[u64],
+    kept: &[u32],
+    at: usize,
+    first: usize,
+    end: usize,
+    d: Changes,
+) -> Changes
+    requires { ⌜ (first % 16 ≡ 0) × (first < end) × (end ≤ first + 16) × (end ≤ 1024) × (end ≤ length (now candidate)) × (at + 2 * end ≤ length (now kept)) ⌝ }
+    requires { ⌜ Upto at (now kept) (now candidate) first (d .count) (d .blocks) ⌝ }
+    ensures { λ r. ⌜ Upto at (now (kept .entry)) (now (candidate .entry)) end (r .count) (r .blocks) ⌝ }
+{
+    if same_pairs(candidate, kept, at, first, end) {
+        return d;
+    }
+    Changes {
+        count: d.count + pairs_changes(candidate, kept, at, first, end),
+        blocks: d.blocks | (1u64 << (first / 16)),
+    }
+}
+
+// How the whole pairs differ.
+fn pairs_difference(candidate: &[u64], kept: &[u32], at: usize, pairs: usize) -> Changes
+    requires { ⌜ (pairs ≤ 1024) × (pairs ≤ length (now candidate)) × (at + 2 * pairs ≤ length (now kept)) ⌝ }
+    ensures { λ r. ⌜ Upto at (now (kept .entry)) (now (candidate .entry)) pairs (r .count) (r .blocks) ⌝ }
+{
+    let mut d = Changes {
+        count: 0,
+        blocks: 0,
+    };
+    let mut j = 0;
+    while j < pairs {
+        let end = smaller(j + 16, pairs);
+        d = with_block(candidate, kept, at, j, end, d);
+        j = end;
+    }
+    d
+}
+
+// At how many atoms words `first` to `words` differ: those behind the whole pairs, two at most.
+fn rest_changes(candidate: &[u64], kept: &[u32], at: usize, first: usize, words: usize) -> usize
+    requires { ⌜ (first ≤ words) × (words ≤ 2048) × (words ≤ 2 * length (now candidate)) × (at + words ≤ length (now kept)) ⌝ }
+    ensures { λ r. ⌜ wordChanges at (now (kept .entry)) (now (candidate .entry)) first + r ≡ wordChanges at (now (kept .entry)) (now (candidate .entry)) words ⌝ }
+{
+    let mut sum = 0;
+    let mut i = first;
+    while i < words {
+        sum = sum + word_changes(candidate, kept, at, i);
+        i += 1;
+    }
+    sum
+}
+
+// How the candidates differ; `candidate` is the new one's listed words.
+pub fn difference(counts: Counts, candidate: &[u64], kept: &[u32]) -> Changes
+    requires { ⌜ Limited counts × (length (now candidate) ≡ words64 (counts .atoms)) × (usedBy counts ≤ length (now kept)) ⌝ }
+    ensures { λ r. ⌜ ((T : Tables) → r .count ≡ changes (member 64 (now (candidate .entry))) (ofWords (sized counts T) (now (kept .entry)))) ⌝ }
+    ensures { λ r. ⌜ Marked counts (now (kept .entry)) (now (candidate .entry)) (r .blocks) ⌝ }
+{
+    let n = counts.nodes;
+    let at = 16 + n + (n + 31) / 32 + counts.atoms;
+    let pairs = counts.atoms / 64;
+    let d = pairs_difference(candidate, kept, at, pairs);
+    let rest = rest_changes(candidate, kept, at, 2 * pairs, (counts.atoms + 31) / 32);
+    Changes {
+        count: d.count + rest,
+        blocks: d.blocks,
+    }
+}
