@@ -1,8 +1,8 @@
 pub mod Enters
 pub mod Onward
 pub mod EnterLaws
-pub mod ChangedLaws
 pub mod AtomLaws
 pub mod WordLaws
 pub mod StartLaws
 pub mod KeptWithin
+pub mod Goes

@@ -123,6 +123,11 @@ module _ (T : Tables) (new : List ℕ) (ws : List ℕ) where
     pub onward : Onward T ws whole lowest mid (allTurned T J (later i) (ofWords T mid)) (leastNode T less (later i))
     pub same : (j : ℕ) → i * 32 ≤ j → present (ofWords T mid) j ≡ present e j
 
+  -- what a call over some words answers and leaves: those below i are turned, or a 17
+  unfoldable pub Continued : Entered → List ℕ → ℕ → Type 0
+  Continued (Low less) mid i = Starting mid less i
+  Continued Stray mid i = Enters T ws whole lowest Stray mid
+
   module _ (room : used T ≤ length ws) (wn : Within (atomCount T) (member 64 new)) (wk : Within (atomCount T) (present e)) where
     differ-within : Within (atomCount T) D
     differ-within a h = go (present e a) refl h
@@ -156,6 +161,35 @@ module _ (T : Tables) (new : List ℕ) (ws : List ℕ) where
               (ap (λ xs. allTurned T J xs e) all-later ∙ sym (start-changed T J e (fits-of T ws room))) (ap (leastNode T (nodeCount T)) all-later);
           same = λ j l. refl;
         }
+
+    -- n words in which no atom changed
+    skipped : (i n : ℕ) → i + n ≤ words32 (atomCount T) → ((a : ℕ) → i * 32 ≤ a → a < (i + n) * 32 → D a ≡ false) → later i ≡ later (i + n)
+    unfolding later
+    skipped i n l alike =
+        let upto : (words32 (atomCount T) - i) * 32 ≡ n * 32 + (words32 (atomCount T) - (i + n)) * 32 = omega arith in
+        let from : (i + n) * 32 ≡ i * 32 + n * 32 = omega arith in
+        rw (upto, from, places-split D (i * 32) (n * 32) ((words32 (atomCount T) - (i + n)) * 32), places-none D (i * 32) (n * 32) (λ a b c. alike a b (omega arith)))
+
+    pub starting-skip : (mid : List ℕ) (less i n : ℕ) → Starting mid less i → i + n ≤ words32 (atomCount T) → ((a : ℕ) → i * 32 ≤ a → a < (i + n) * 32 → D a ≡ false) → Starting mid less (i + n)
+    starting-skip mid less i n s l alike =
+        record { onward = rw (← skipped i n l alike) (s .onward); same = λ j b. s .same j (omega arith) }
+
+    -- a word that stands as the new one has it
+    pub same-word : (mid : List ℕ) (less i : ℕ) → Starting mid less i → (q : ℕ) → i ≤ q → q < words32 (atomCount T) → getD mid (candidateStart T + q) 0 ≡ half new q
+        → (a : ℕ) → q * 32 ≤ a → a < q * 32 + 32 → D a ≡ false
+    same-word mid less i s q b l h a x y =
+        let middle : used T ≤ length mid = onward-room T ws whole lowest room mid (allTurned T J (later i) (ofWords T mid)) (leastNode T less (later i)) (s .onward) in
+        let k : ℕ = a - q * 32 in
+        let place : a ≡ q * 32 + k = omega arith in
+        let below : k < 32 = omega arith in
+        ap (λ z. unlike z (member 64 new a)) (sym (s .same a (omega arith)))
+        ∙ ap (λ z. unlike (present (ofWords T mid) z) (member 64 new z)) place
+        ∙ ap₂ unlike (place-member (ofWords T mid .candidate) q k below ∙ ap (λ w. bit w k) (sym (get-candidate T mid middle q l) ∙ h)) (half-place new (atomCount T) q k (half new q) wn l refl below)
+        ∙ alike (bit (half new q) k)
+      where
+        alike : (b : Bool) → unlike b b ≡ false
+        alike true = refl
+        alike false = refl
 
     module _ (mid : List ℕ) (less i : ℕ) (s : Starting mid less i) where
       pub starting-done : i ≡ words32 (atomCount T) → Enters T ws whole lowest (Low less) mid

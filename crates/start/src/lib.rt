@@ -1,8 +1,8 @@
-// The start of a kept check: how many atoms changed, and the new candidate with its missing atoms and the atom nodes of changed atoms on the worklist (the two passes of `update` in tight/evaluate.rs).
+// The start of a kept check: the new candidate with its missing atoms, and the atom nodes of changed atoms on the worklist (the second pass of `update` in tight/evaluate.rs).
 ghost use mathlib.Core.Path.{_≡_};
 ghost use mathlib.Core.Bool.{true};
 ghost use mathlib.Core.List.{map};
-ghost use Prim.Native.Nat.{ℕ, _+_, _*_, _<_, _≤_};
+ghost use Prim.Native.Nat.{ℕ, _+_, _*_, _/_, _<_, _≤_};
 ghost use lib.Bits.{bitXor};
 ghost use lib.ListN.{length, getD};
 ghost use Rattle.base.specs.Places.{places};
@@ -17,10 +17,12 @@ ghost use Rattle.kept.specs.Tables.{Tables, atomNodesAt};
 ghost use Rattle.kept.specs.Evaluation.{present};
 ghost use Rattle.kept.specs.Layout.{ofWords};
 ghost use Rattle.kept.specs.Start.{allEntered, atomTurned, walkStart, least, orNone, leastNode, lowestEntered};
-ghost use Rattle.kept.specs.Check.{changes};
 ghost use Rattle.kept_laws.specs.Given.{candidateAt, usedBy, sized, listed};
 ghost use Rattle.kept_laws.specs.StartChanged.{allTurned};
+ghost use Rattle.difference.specs.Marks.{Marked};
 ghost use Rattle.start.specs.Enters.{Enters};
+ghost use Rattle.start.specs.StartLaws.{Continued};
+ghost use Rattle.start.specs.Goes.{Begun, Goes};
 use theory::Counts;
 
 // The lowest node entered, or the number that was given; Stray is refusal 17.
@@ -112,24 +114,110 @@ fn turn_word(
     Entered::Low(lowest)
 }
 
-// The new candidate, and the atom nodes of changed atoms on the worklist; `candidate` is its listed words.
-pub fn start(counts: Counts, candidate: &[u64], readers: &[u64], kept: &mut [u32]) -> Entered
-    requires { ⌜ Limited counts × (length (now candidate) ≡ words64 (counts .atoms)) × (readerWords counts ≤ length (now readers)) × (usedBy counts ≤ length (now kept)) ⌝ }
+// The atoms of words 2 j and 2 j + 1 become as the new candidate has them, if one of them differs.
+fn turn_pair(
+    counts: Counts,
+    candidate: &[u64],
+    readers: &[u64],
+    kept: &mut [u32],
+    j: usize,
+    low: usize,
+) -> Entered
+    requires { ⌜ Limited counts × (length (now candidate) ≡ words64 (counts .atoms)) × (readerWords counts ≤ length (now readers)) × (usedBy counts ≤ length (now kept)) × (64 * j + 64 ≤ counts .atoms) ⌝ }
+    ensures { λ r. ⌜ ((T : Tables) → Goes (listed counts (now (readers .entry)) T) (now (candidate .entry)) (now (kept .entry)) low (2 * j) r (now (kept .exit)) (2 * j + 2)) ⌝ }
+{
+    let n = counts.nodes;
+    let at = 16 + n + (n + 31) / 32 + counts.atoms;
+    if difference::same_pair(candidate, kept, at, j) {
+        return Entered::Low(low);
+    }
+    let word = retained::half_word(candidate, 2 * j);
+    let turned = turn_word(counts, readers, kept, 2 * j, word, low);
+    let Entered::Low(m) = turned else {
+        return Entered::Stray;
+    };
+    let other = retained::half_word(candidate, 2 * j + 1);
+    turn_word(counts, readers, kept, 2 * j + 1, other, m)
+}
+
+// The same of pairs `first` to `end`.
+fn turn_pairs(
+    counts: Counts,
+    candidate: &[u64],
+    readers: &[u64],
+    kept: &mut [u32],
+    first: usize,
+    end: usize,
+    low: usize,
+) -> Entered
+    requires { ⌜ Limited counts × (length (now candidate) ≡ words64 (counts .atoms)) × (readerWords counts ≤ length (now readers)) × (usedBy counts ≤ length (now kept)) × (first ≤ end) × (64 * end ≤ counts .atoms) ⌝ }
+    ensures { λ r. ⌜ ((T : Tables) → Goes (listed counts (now (readers .entry)) T) (now (candidate .entry)) (now (kept .entry)) low (2 * first) r (now (kept .exit)) (2 * end)) ⌝ }
+{
+    let mut lowest = low;
+    let mut j = first;
+    while j < end {
+        match turn_pair(counts, candidate, readers, kept, j, lowest) {
+            Entered::Low(m) => {
+                lowest = m;
+            }
+            Entered::Stray => {
+                return Entered::Stray;
+            }
+        }
+        j += 1;
+    }
+    Entered::Low(lowest)
+}
+
+// The same of all whole pairs, by blocks: those that are not marked stand as the new candidate has them.
+fn turn_blocks(
+    counts: Counts,
+    candidate: &[u64],
+    readers: &[u64],
+    kept: &mut [u32],
+    blocks: u64,
+) -> Entered
+    requires { ⌜ Limited counts × (length (now candidate) ≡ words64 (counts .atoms)) × (readerWords counts ≤ length (now readers)) × (usedBy counts ≤ length (now kept)) × Marked counts (now kept) (now candidate) blocks ⌝ }
     requires { ⌜ Within (counts .atoms) (member 64 (now candidate)) × ((T : Tables) → Within (counts .atoms) (present (ofWords (sized counts T) (now kept)))) ⌝ }
-    ensures { λ r. ⌜ ((T : Tables) → Enters (listed counts (now (readers .entry)) T) (now (kept .entry)) (walkStart (listed counts (now (readers .entry)) T) (member 64 (now (candidate .entry))) (counts .atoms) (ofWords (listed counts (now (readers .entry)) T) (now (kept .entry)))) (lowestEntered (listed counts (now (readers .entry)) T) (member 64 (now (candidate .entry))) (ofWords (listed counts (now (readers .entry)) T) (now (kept .entry)))) r (now (kept .exit))) ⌝ }
+    ensures { λ r. ⌜ ((T : Tables) → Continued (listed counts (now (readers .entry)) T) (now (candidate .entry)) (now (kept .entry)) r (now (kept .exit)) (2 * (counts .atoms / 64))) ⌝ }
+{
+    let pairs = counts.atoms / 64;
+    let mut lowest = counts.nodes;
+    let mut j = 0;
+    while j < pairs {
+        let end = difference::smaller(j + 16, pairs);
+        if (blocks >> (j / 16)) % 2 == 1 {
+            match turn_pairs(counts, candidate, readers, kept, j, end, lowest) {
+                Entered::Low(m) => {
+                    lowest = m;
+                }
+                Entered::Stray => {
+                    return Entered::Stray;
+                }
+            }
+        }
+        j = end;
+    }
+    Entered::Low(lowest)
+}
+
+// The same of the words behind the whole pairs, two at most.
+fn turn_rest(
+    counts: Counts,
+    candidate: &[u64],
+    readers: &[u64],
+    kept: &mut [u32],
+    low: usize,
+) -> Entered
+    requires { ⌜ Limited counts × (length (now candidate) ≡ words64 (counts .atoms)) × (readerWords counts ≤ length (now readers)) × (usedBy counts ≤ length (now kept)) × ((T : Tables) → Begun (listed counts (now readers) T) (now candidate) (now kept) low (2 * (counts .atoms / 64))) ⌝ }
+    ensures { λ r. ⌜ ((T : Tables) → Goes (listed counts (now (readers .entry)) T) (now (candidate .entry)) (now (kept .entry)) low (2 * (counts .atoms / 64)) r (now (kept .exit)) (words32 (counts .atoms))) ⌝ }
 {
     let words = (counts.atoms + 31) / 32;
-    let mut lowest = counts.nodes;
-    let mut i = 0;
+    let mut lowest = low;
+    let mut i = 2 * (counts.atoms / 64);
     while i < words {
-        match turn_word(
-            counts,
-            readers,
-            kept,
-            i,
-            retained::half_word(candidate, i),
-            lowest,
-        ) {
+        let word = retained::half_word(candidate, i);
+        match turn_word(counts, readers, kept, i, word, lowest) {
             Entered::Low(m) => {
                 lowest = m;
             }
@@ -142,19 +230,20 @@ pub fn start(counts: Counts, candidate: &[u64], readers: &[u64], kept: &mut [u32
     Entered::Low(lowest)
 }
 
-// How many atoms differ between the kept candidate and the new one: the ones of each word's difference.
-pub fn changed(counts: Counts, candidate: &[u64], kept: &[u32]) -> usize
-    requires { ⌜ Limited counts × (length (now candidate) ≡ words64 (counts .atoms)) × (usedBy counts ≤ length (now kept)) ⌝ }
-    ensures { λ r. ⌜ ((T : Tables) → r ≡ changes (member 64 (now (candidate .entry))) (ofWords (sized counts T) (now (kept .entry)))) ⌝ }
+// The new candidate, and the atom nodes of changed atoms on the worklist; `candidate` is its listed words, `blocks` marks where it may differ.
+pub fn start(
+    counts: Counts,
+    candidate: &[u64],
+    readers: &[u64],
+    kept: &mut [u32],
+    blocks: u64,
+) -> Entered
+    requires { ⌜ Limited counts × (length (now candidate) ≡ words64 (counts .atoms)) × (readerWords counts ≤ length (now readers)) × (usedBy counts ≤ length (now kept)) × Marked counts (now kept) (now candidate) blocks ⌝ }
+    requires { ⌜ Within (counts .atoms) (member 64 (now candidate)) × ((T : Tables) → Within (counts .atoms) (present (ofWords (sized counts T) (now kept)))) ⌝ }
+    ensures { λ r. ⌜ ((T : Tables) → Enters (listed counts (now (readers .entry)) T) (now (kept .entry)) (walkStart (listed counts (now (readers .entry)) T) (member 64 (now (candidate .entry))) (counts .atoms) (ofWords (listed counts (now (readers .entry)) T) (now (kept .entry)))) (lowestEntered (listed counts (now (readers .entry)) T) (member 64 (now (candidate .entry))) (ofWords (listed counts (now (readers .entry)) T) (now (kept .entry)))) r (now (kept .exit))) ⌝ }
 {
-    let n = counts.nodes;
-    let at = 16 + n + (n + 31) / 32 + counts.atoms;
-    let words = (counts.atoms + 31) / 32;
-    let mut sum = 0;
-    let mut i = 0;
-    while i < words {
-        sum = sum + words::set32::changed(kept[at + i], retained::half_word(candidate, i)) as usize;
-        i += 1;
+    match turn_blocks(counts, candidate, readers, kept, blocks) {
+        Entered::Low(low) => turn_rest(counts, candidate, readers, kept, low),
+        Entered::Stray => Entered::Stray,
     }
-    sum
 }
