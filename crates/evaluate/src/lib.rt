@@ -1,6 +1,6 @@
 // The public check of a candidate (`check` and `evaluate` of tight/evaluate.rs): kept where a check of this stamp is held and few atoms changed, else fresh.
 ghost use mathlib.Core.Path.{_≡_};
-ghost use Prim.Native.Nat.{_+_, _*_, _/_, _<_, _≤_, max};
+ghost use Prim.Native.Nat.{ℕ, _+_, _*_, _/_, _<_, _≤_, max};
 ghost use lib.ListN.{length};
 ghost use Rattle.formula.specs.Passes.{Within};
 ghost use Rattle.words.specs.Sets.{member};
@@ -12,8 +12,10 @@ ghost use Rattle.kept.specs.Layout.{ofWords};
 ghost use Rattle.kept.specs.Check.{freshResult, tablesAdmission, isKept, result};
 ghost use Rattle.kept.specs.Outcome.{outcome};
 ghost use Rattle.kept_laws.specs.Given.{usedBy, sized, planned};
+ghost use Rattle.difference.specs.Marks.{Marked};
 ghost use Rattle.update.specs.Results.{lent, Results};
-ghost use Rattle.evaluate.specs.Checks.{Lent, tablesOf, candidateOf, outcomeOf, settled};
+ghost use Rattle.evaluate.specs.declared.Way.the-variants.{Kept};
+ghost use Rattle.evaluate.specs.Checks.{isWay, Lent, tablesOf, candidateOf, outcomeOf, settled};
 use tests::Lengths;
 use theory::Admission;
 use theory::Counts;
@@ -26,18 +28,29 @@ pub struct Plan {
     pub producers: usize,
 }
 
-// Whether a check of this stamp is held and at most max(64, atoms / 8) atoms changed.
-fn is_kept(counts: Counts, candidate: &[u64], kept: &[u32]) -> bool
+// Which check is made: kept, with marks of where the candidate may differ, or fresh.
+pub enum Way {
+    Kept(u64),
+    Fresh,
+}
+
+// Kept where a check of this stamp is held and at most max(64, atoms / 8) atoms changed.
+fn kept_or_fresh(counts: Counts, candidate: &[u64], kept: &[u32]) -> Way
     requires { ⌜ Limited counts × (length (now candidate) ≡ words64 (counts .atoms)) × (usedBy counts ≤ length (now kept)) ⌝ }
-    ensures { λ r. ⌜ ((T : Tables) → r ≡ isKept 64 8 (sized counts T) (member 64 (now (candidate .entry))) (ofWords (sized counts T) (now (kept .entry)))) ⌝ }
+    ensures { λ r. ⌜ ((T : Tables) → isWay r ≡ isKept 64 8 (sized counts T) (member 64 (now (candidate .entry))) (ofWords (sized counts T) (now (kept .entry)))) ⌝ }
+    ensures { λ r. ⌜ ((b : ℕ) → r ≡ Kept b → Marked counts (now (kept .entry)) (now (candidate .entry)) b) ⌝ }
 {
     if kept[0] != 1 {
-        return false;
+        return Way::Fresh;
     }
     if kept[1] != counts.stamp {
-        return false;
+        return Way::Fresh;
     }
-    start::changed(counts, candidate, kept) <= words::greater(64, counts.atoms / 8)
+    let changes = difference::difference(counts, candidate, kept);
+    if changes.count > words::greater(64, counts.atoms / 8) {
+        return Way::Fresh;
+    }
+    Way::Kept(changes.blocks)
 }
 
 // A fresh check: the evaluation laid anew, then the verdict.
@@ -87,8 +100,8 @@ fn evaluate(
     if made > counts.roots {
         return Checked::Refused(Refusal::BadEntry(0));
     }
-    if is_kept(counts, candidate, kept) {
-        update::update(
+    match kept_or_fresh(counts, candidate, kept) {
+        Way::Kept(blocks) => update::update(
             counts,
             made,
             candidate,
@@ -98,9 +111,9 @@ fn evaluate(
             producers,
             readers,
             kept,
-        )
-    } else {
-        fresh(
+            blocks,
+        ),
+        Way::Fresh => fresh(
             counts,
             made,
             candidate,
@@ -109,7 +122,7 @@ fn evaluate(
             roots,
             producers,
             kept,
-        )
+        ),
     }
 }
 

@@ -15,6 +15,7 @@ ghost use Rattle.kept.specs.Walk.{walk, keptWalk};
 ghost use Rattle.kept.specs.Check.{concluded, keptResult};
 ghost use Rattle.kept_laws.specs.Given.{usedBy, sized};
 ghost use Rattle.kept_laws.specs.Turns.{resumed};
+ghost use Rattle.difference.specs.Marks.{Marked};
 ghost use Rattle.step.specs.Steps.{Lent};
 ghost use Rattle.verdict.specs.Told.{judgedOf};
 ghost use Rattle.update.specs.Results.{lent, answerOf, answerIn, Results};
@@ -86,7 +87,7 @@ fn stray_member(counts: Counts, kept: &[u32]) -> bool
     words::set32::next(&kept[at..at + size], a) < 32 * size
 }
 
-// The kept evaluation brought to the new candidate, whose listed words `candidate` is.
+// The kept evaluation brought to the new candidate, whose listed words `candidate` is; `blocks` marks where it may differ.
 pub fn update(
     counts: Counts,
     made: usize,
@@ -97,14 +98,15 @@ pub fn update(
     producers: &[u32],
     readers: &[u64],
     kept: &mut [u32],
+    blocks: u64,
 ) -> Checked
-    requires { ⌜ Lent counts made (length (now nodes)) (length (now operands)) (length (now producers)) (length (now readers)) (length (now kept)) × (counts .roots ≤ length (now roots)) × (length (now candidate) ≡ words64 (counts .atoms)) × Within (counts .atoms) (member 64 (now candidate)) ⌝ }
+    requires { ⌜ Lent counts made (length (now nodes)) (length (now operands)) (length (now producers)) (length (now readers)) (length (now kept)) × (counts .roots ≤ length (now roots)) × (length (now candidate) ≡ words64 (counts .atoms)) × Within (counts .atoms) (member 64 (now candidate)) × Marked counts (now kept) (now candidate) blocks ⌝ }
     ensures { λ r. ⌜ ((T : Tables) → Results (lent counts made (now (nodes .entry)) (now (operands .entry)) (now (roots .entry)) (now (producers .entry)) (now (readers .entry)) T) (now (kept .entry)) (keptResult (lent counts made (now (nodes .entry)) (now (operands .entry)) (now (roots .entry)) (now (producers .entry)) (now (readers .entry)) T) (keptWalk (lent counts made (now (nodes .entry)) (now (operands .entry)) (now (roots .entry)) (now (producers .entry)) (now (readers .entry)) T) (member 64 (now (candidate .entry))) (ofWords (lent counts made (now (nodes .entry)) (now (operands .entry)) (now (roots .entry)) (now (producers .entry)) (now (readers .entry)) T) (now (kept .entry))))) r (now (kept .exit))) ⌝ }
 {
     if stray_member(counts, kept) {
         return Checked::Refused(Refusal::BadEntry(0));
     }
-    match start::start(counts, candidate, readers, kept) {
+    match start::start(counts, candidate, readers, kept, blocks) {
         Entered::Stray => Checked::Refused(Refusal::BadEntry(0)),
         Entered::Low(from) => walk(
             counts,

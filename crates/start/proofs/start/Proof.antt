@@ -19,7 +19,7 @@ enum-known-low c = search needs
 
 -- src/lib.rt:246:30
 turn-rest-requires : tie.Need-turn-rest-requires
-turn-rest-requires c κs = 
+turn-rest-requires c κs =
     (c .before .before .before .before .before .before .before .before .before .before .before .pre .0 .0, c .before .before .before .before .before .before .before .before .before .before .before .pre .0 .1, c .before .before .before .before .before .before .before .before .before .before .before .pre .0 .2, omega (arith, c .before .before .before .before .before .before .before .before .before .before .before .pre .0 .3, c .before .before .before .before .before .before .turn-blocks .kept .1 .1 .1 .0), λ T. record { ws = c .before .before .before .before .before .before .before .before .before .before .before .args .kept .now; room = c .before .before .before .before .before .before .before .before .before .before .before .pre .0 .3; new-within = c .before .before .before .before .before .before .before .before .before .before .before .pre .1 .0; kept-within = c .before .before .before .before .before .before .before .before .before .before .before .pre .1 .1 (listed (c .before .before .before .before .before .before .before .before .before .before .before .args .counts) (c .before .before .before .before .before .before .before .before .before .before .before .args .readers .now) T); starting = continued-low (listed (c .before .before .before .before .before .before .before .before .before .before .before .args .counts) (c .before .before .before .before .before .before .before .before .before .before .before .args .readers .now) T) (c .before .before .before .before .before .before .before .before .before .before .before .args .candidate .now) (c .before .before .before .before .before .before .before .before .before .before .before .args .kept .now) _ _ _ _ (c .before .before .low .given .1) (c .before .before .before .before .before .before .turn-blocks .ensures T) })
 
 -- src/lib.rt:247:27

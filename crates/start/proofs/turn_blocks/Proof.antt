@@ -15,7 +15,7 @@ use Rattle.difference.proofs.smaller.Reads as smaller-reads
 use Rattle.start.proofs.turn_pairs.Reads as turn-pairs-reads
 
 abbrev Inv-loop : tie.InvT-loop
-Inv-loop counts candidate readers kept₀ blocks pairs lowest₀ j₀ kept lowest j = 
+Inv-loop counts candidate readers kept₀ blocks pairs lowest₀ j₀ kept lowest j =
     ((T : Tables) → Starting (listed counts readers T) candidate kept₀ kept lowest (2 * j)) × (length kept ≡ length kept₀) × (j ≤ pairs) × (j < pairs → j % 16 ≡ 0)
 
 abbrev μ-loop : tie.MeasureT-loop
@@ -63,7 +63,7 @@ loop-less c = search needs
 
 -- src/lib.rt:187:5
 loop-again : tie.Need-loop-again Inv-loop μ-loop
-loop-again c = 
+loop-again c =
     (λ T. continued-low (listed (c .before .before .before .before .before .before .before .before .before .before .before .before .before .before .before .args .counts) (c .before .before .before .before .before .before .before .before .before .before .before .before .before .before .before .args .readers .now) T) (c .before .before .before .before .before .before .before .before .before .before .before .before .before .before .before .args .candidate .now) (c .before .before .before .before .before .before .before .before .before .before .before .before .before .before .before .args .kept .now) _ _ _ _ (c .before .m .given .1) (goes-from (listed (c .before .before .before .before .before .before .before .before .before .before .before .before .before .before .before .args .counts) (c .before .before .before .before .before .before .before .before .before .before .before .before .before .before .before .args .readers .now) T) (c .before .before .before .before .before .before .before .before .before .before .before .before .before .before .before .args .candidate .now) (c .before .before .before .before .before .before .before .before .before .before .before .before .before .before .before .args .kept .now) (c .before .before .before .before .before .before .before .before .before .before .before .before .before .before .before .pre .0 .3) (c .before .before .before .before .before .before .before .before .before .before .before .before .before .before .before .pre .1 .0) (c .before .before .before .before .before .before .before .before .before .before .before .before .before .before .before .pre .1 .1 (listed (c .before .before .before .before .before .before .before .before .before .before .before .before .before .before .before .args .counts) (c .before .before .before .before .before .before .before .before .before .before .before .before .before .before .before .args .readers .now) T)) _ _ _ _ _ _ (c .before .before .before .before .before .turn-pairs .ensures T) (c .before .before .before .before .before .before .before .before .before .before .loop .inv .0 T)), c .before .before .before .before .before .turn-pairs .kept .1 .1 .1 .0 ∙ c .before .before .before .before .before .before .before .before .before .before .loop .inv .1, omega (arith, c .before .before .before .before .before .before .before .before .smaller .ensures), λ l. omega (arith, c .before .before .before .before .before .before .before .before .smaller .ensures, c .before .before .before .before .before .before .before .before .before .before .loop .inv .3 (c .before .before .before .before .before .before .before .before .before .loop-test .taken)))
 
 -- src/lib.rt:187:5
@@ -72,7 +72,7 @@ loop-less-2 c = search needs
 
 -- src/lib.rt:187:5
 loop-again-2 : tie.Need-loop-again-2 Inv-loop μ-loop
-loop-again-2 c = 
+loop-again-2 c =
     (λ T. starting-block (listed (c .before .before .before .before .before .before .before .before .args .counts) (c .before .before .before .before .before .before .before .before .args .readers .now) T) (c .before .before .before .before .before .before .before .before .args .candidate .now) (c .before .before .before .before .before .before .before .before .args .kept .now) (c .before .before .before .before .before .before .before .before .pre .0 .3) (c .before .before .before .before .before .before .before .before .pre .1 .0) (c .before .before .before .before .before .before .before .before .pre .1 .1 (listed (c .before .before .before .before .before .before .before .before .args .counts) (c .before .before .before .before .before .before .before .before .args .readers .now) T)) _ _ _ _ _ (c .before .before .before .loop .inv .0 T) (c .before .before .before .before .before .before .before .before .pre .0 .4) (c .if1 .left) (c .before .before .before .loop .inv .3 (c .before .before .loop-test .taken)) (omega (arith, c .before .smaller .ensures, c .before .before .loop-test .taken)) (omega (arith, c .before .smaller .ensures)) (omega (arith, c .before .smaller .ensures)), c .before .before .before .loop .inv .1, omega (arith, c .before .smaller .ensures), λ l. omega (arith, c .before .smaller .ensures, c .before .before .before .loop .inv .3 (c .before .before .loop-test .taken)))
 
 -- src/lib.rt:173:1

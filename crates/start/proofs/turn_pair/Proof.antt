@@ -70,7 +70,7 @@ same-length-2 c = search needs
 
 -- src/lib.rt:137:9
 returns-2 : tie.Need-returns-2
-returns-2 c = 
+returns-2 c =
     λ T. goes-stray (listed (c .before .before .before .before .before .before .before .before .before .before .before .before .before .before .args .counts) (c .before .before .before .before .before .before .before .before .before .before .before .before .before .before .args .readers .now) T) (c .before .before .before .before .before .before .before .before .before .before .before .before .before .before .args .candidate .now) (c .before .before .before .before .before .before .before .before .before .before .before .before .before .before .args .kept .now) (c .before .before .before .before .before .before .before .before .before .before .before .before .before .before .args .low) (2 * c .before .before .before .before .before .before .before .before .before .before .before .before .before .before .args .j) _ _ (2 * c .before .before .before .before .before .before .before .before .before .before .before .before .before .before .args .j + 1) (2 * c .before .before .before .before .before .before .before .before .before .before .before .before .before .before .args .j + 2) (c .enum-told .given .1)
     (goes-word (listed (c .before .before .before .before .before .before .before .before .before .before .before .before .before .before .args .counts) (c .before .before .before .before .before .before .before .before .before .before .before .before .before .before .args .readers .now) T) (c .before .before .before .before .before .before .before .before .before .before .before .before .before .before .args .candidate .now) (c .before .before .before .before .before .before .before .before .before .before .before .before .before .before .args .kept .now) (c .before .before .before .before .before .before .before .before .before .before .before .before .before .before .args .low) (2 * c .before .before .before .before .before .before .before .before .before .before .before .before .before .before .args .j) _ (omega (arith, c .before .before .before .before .before .before .before .before .before .before .before .before .before .before .pre)) (c .before .before .before .before .before .before .half-word .ensures) _ _ _ refl (c .before .before .before .before .turn-word .ensures T))
 
@@ -104,7 +104,7 @@ same-length-3 c = search needs
 
 -- src/lib.rt:118:1
 returns-3 : tie.Need-returns-3
-returns-3 c = 
+returns-3 c =
     λ T. goes-then (listed (c .before .before .before .before .before .before .before .before .before .before .before .before .before .before .before .before .before .before .before .before .args .counts) (c .before .before .before .before .before .before .before .before .before .before .before .before .before .before .before .before .before .before .before .before .args .readers .now) T) (c .before .before .before .before .before .before .before .before .before .before .before .before .before .before .before .before .before .before .before .before .args .candidate .now) (c .before .before .before .before .before .before .before .before .before .before .before .before .before .before .before .before .before .before .before .before .args .kept .now) (c .before .before .before .before .before .before .before .before .before .before .before .before .before .before .before .before .before .before .before .before .args .low) (2 * c .before .before .before .before .before .before .before .before .before .before .before .before .before .before .before .before .before .before .before .before .args .j) _ _ _ (2 * c .before .before .before .before .before .before .before .before .before .before .before .before .before .before .before .before .before .before .before .before .args .j + 1) (c .before .before .before .before .before .before .turned .given .1)
     (goes-word (listed (c .before .before .before .before .before .before .before .before .before .before .before .before .before .before .before .before .before .before .before .before .args .counts) (c .before .before .before .before .before .before .before .before .before .before .before .before .before .before .before .before .before .before .before .before .args .readers .now) T) (c .before .before .before .before .before .before .before .before .before .before .before .before .before .before .before .before .before .before .before .before .args .candidate .now) (c .before .before .before .before .before .before .before .before .before .before .before .before .before .before .before .before .before .before .before .before .args .kept .now) (c .before .before .before .before .before .before .before .before .before .before .before .before .before .before .before .before .before .before .before .before .args .low) (2 * c .before .before .before .before .before .before .before .before .before .before .before .before .before .before .before .before .before .before .before .before .args .j) _ (omega (arith, c .before .before .before .before .before .before .before .before .before .before .before .before .before .before .before .before .before .before .before .before .pre)) (c .before .before .before .before .before .before .before .before .before .before .before .before .half-word .ensures) _ _ _ refl (c .before .before .before .before .before .before .before .before .before .before .turn-word .ensures T))
     _ _ (2 * c .before .before .before .before .before .before .before .before .before .before .before .before .before .before .before .before .before .before .before .before .args .j + 2)

@@ -14,7 +14,7 @@ use Rattle.start.proofs.turn_pairs.Lts as lts
 use Rattle.start.proofs.turn_pair.Reads as turn-pair-reads
 
 abbrev Inv-loop : tie.InvT-loop
-Inv-loop counts candidate readers kept₀ first end low lowest₀ j₀ kept lowest j = 
+Inv-loop counts candidate readers kept₀ first end low lowest₀ j₀ kept lowest j =
     ((T : Tables) → Goes (listed counts readers T) candidate kept₀ low (2 * first) (Low lowest) kept (2 * j)) × (length kept ≡ length kept₀) × (j ≤ end)
 
 abbrev μ-loop : tie.MeasureT-loop
@@ -54,7 +54,7 @@ loop-less c = search needs
 
 -- src/lib.rt:158:5
 loop-again : tie.Need-loop-again Inv-loop μ-loop
-loop-again c = 
+loop-again c =
     (λ T. goes-on (listed (c .before .before .before .before .before .before .before .before .before .before .before .before .args .counts) (c .before .before .before .before .before .before .before .before .before .before .before .before .args .readers .now) T) (c .before .before .before .before .before .before .before .before .before .before .before .before .args .candidate .now) (c .before .before .before .before .before .before .before .before .before .before .before .before .args .kept .now) (c .before .before .before .before .before .before .before .before .before .before .before .before .args .low) (2 * c .before .before .before .before .before .before .before .before .before .before .before .before .args .first) _ _ _ (c .before .before .before .before .before .before .before .before .loop .inv .0 T) _ _ _ _ (c .before .before .before .before .before .turn-pair .ensures T) _ (c .before .m .given .1) (omega arith), c .before .before .before .before .before .turn-pair .kept .1 .1 .1 .0 ∙ c .before .before .before .before .before .before .before .before .loop .inv .1, omega (arith, c .before .before .before .before .before .before .before .loop-test .taken))
 
 -- src/lib.rt:144:1

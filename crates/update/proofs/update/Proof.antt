@@ -29,7 +29,7 @@ returns c = λ T. update-stray (lent (c .before .before .before .before .before 
 
 -- src/lib.rt:108:11
 start-requires : tie.Need-start-requires
-start-requires c κs = ((c .before .before .before .before .before .before .before .before .before .before .before .pre .0 .limited, c .before .before .before .before .before .before .before .before .before .before .before .pre .2, c .before .before .before .before .before .before .before .before .before .before .before .pre .0 .readers-long, c .before .before .before .before .before .before .before .before .before .before .before .pre .0 .kept-long), (c .before .before .before .before .before .before .before .before .before .before .before .pre .3, λ T. not-stray (sized (c .before .before .before .before .before .before .before .before .before .before .before .args .counts) T) (member 64 (c .before .before .before .before .before .before .before .before .before .before .before .args .candidate .now)) (c .before .before .before .before .before .before .before .before .before .before .before .args .kept .now) (c .before .before .before .before .before .before .before .before .before .before .before .pre .0 .kept-long) (sym (c .before .before .stray-member .ensures (sized (c .before .before .before .before .before .before .before .before .before .before .before .args .counts) T)) ∙ c .before .if1 .left)))
+start-requires c κs = ((c .before .before .before .before .before .before .before .before .before .before .before .pre .0 .limited, c .before .before .before .before .before .before .before .before .before .before .before .pre .2, c .before .before .before .before .before .before .before .before .before .before .before .pre .0 .readers-long, c .before .before .before .before .before .before .before .before .before .before .before .pre .0 .kept-long, c .before .before .before .before .before .before .before .before .before .before .before .pre .4), (c .before .before .before .before .before .before .before .before .before .before .before .pre .3, λ T. not-stray (sized (c .before .before .before .before .before .before .before .before .before .before .before .args .counts) T) (member 64 (c .before .before .before .before .before .before .before .before .before .before .before .args .candidate .now)) (c .before .before .before .before .before .before .before .before .before .before .before .args .kept .now) (c .before .before .before .before .before .before .before .before .before .before .before .pre .0 .kept-long) (sym (c .before .before .stray-member .ensures (sized (c .before .before .before .before .before .before .before .before .before .before .before .args .counts) T)) ∙ c .before .if1 .left)))
 
 -- src/lib.rt:109:44
 enum-told : tie.Need-enum-told
