@@ -143,3 +143,8 @@ pub begun-within : (T : Tables) (new before : List ℕ) (low i : ℕ) → Begun 
 unfolding Goes Continued
 begun-within T new before low i b mid less j g l x q =
     starting-within T new (b .ws) (b .room) (b .new-within) (b .kept-within) mid less j (g (b .ws) (b .room) (b .new-within) (b .kept-within) (b .starting)) l x q
+
+pub begun-on : (T : Tables) (new before : List ℕ) (low i : ℕ) → Begun T new before low i → (mid : List ℕ) (less j : ℕ) → Goes T new before low i (Low less) mid j → Begun T new mid less j
+unfolding Goes Continued
+begun-on T new before low i b mid less j g =
+    record { ws = b .ws; room = b .room; new-within = b .new-within; kept-within = b .kept-within; starting = g (b .ws) (b .room) (b .new-within) (b .kept-within) (b .starting) }

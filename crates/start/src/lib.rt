@@ -114,7 +114,37 @@ fn turn_word(
     Entered::Low(lowest)
 }
 
-// The atoms of words 2 j and 2 j + 1 become as the new candidate has them, if one of them differs.
+// The atoms of words `first` to `end` become as the new candidate has them.
+fn turn_words(
+    counts: Counts,
+    candidate: &[u64],
+    readers: &[u64],
+    kept: &mut [u32],
+    first: usize,
+    end: usize,
+    low: usize,
+) -> Entered
+    requires { ⌜ Limited counts × (length (now candidate) ≡ words64 (counts .atoms)) × (readerWords counts ≤ length (now readers)) × (usedBy counts ≤ length (now kept)) × (first ≤ end) × (end ≤ words32 (counts .atoms)) × ((T : Tables) → Begun (listed counts (now readers) T) (now candidate) (now kept) low first) ⌝ }
+    ensures { λ r. ⌜ ((T : Tables) → Goes (listed counts (now (readers .entry)) T) (now (candidate .entry)) (now (kept .entry)) low first r (now (kept .exit)) end) ⌝ }
+{
+    let mut lowest = low;
+    let mut i = first;
+    while i < end {
+        let word = retained::half_word(candidate, i);
+        match turn_word(counts, readers, kept, i, word, lowest) {
+            Entered::Low(m) => {
+                lowest = m;
+            }
+            Entered::Stray => {
+                return Entered::Stray;
+            }
+        }
+        i += 1;
+    }
+    Entered::Low(lowest)
+}
+
+// The same of pair j, words 2 j and 2 j + 1, if one of them differs.
 fn turn_pair(
     counts: Counts,
     candidate: &[u64],
@@ -123,7 +153,7 @@ fn turn_pair(
     j: usize,
     low: usize,
 ) -> Entered
-    requires { ⌜ Limited counts × (length (now candidate) ≡ words64 (counts .atoms)) × (readerWords counts ≤ length (now readers)) × (usedBy counts ≤ length (now kept)) × (64 * j + 64 ≤ counts .atoms) ⌝ }
+    requires { ⌜ Limited counts × (length (now candidate) ≡ words64 (counts .atoms)) × (readerWords counts ≤ length (now readers)) × (usedBy counts ≤ length (now kept)) × (64 * j + 64 ≤ counts .atoms) × ((T : Tables) → Begun (listed counts (now readers) T) (now candidate) (now kept) low (2 * j)) ⌝ }
     ensures { λ r. ⌜ ((T : Tables) → Goes (listed counts (now (readers .entry)) T) (now (candidate .entry)) (now (kept .entry)) low (2 * j) r (now (kept .exit)) (2 * j + 2)) ⌝ }
 {
     let n = counts.nodes;
@@ -131,13 +161,7 @@ fn turn_pair(
     if difference::same_pair(candidate, kept, at, j) {
         return Entered::Low(low);
     }
-    let word = retained::half_word(candidate, 2 * j);
-    let turned = turn_word(counts, readers, kept, 2 * j, word, low);
-    let Entered::Low(m) = turned else {
-        return Entered::Stray;
-    };
-    let other = retained::half_word(candidate, 2 * j + 1);
-    turn_word(counts, readers, kept, 2 * j + 1, other, m)
+    turn_words(counts, candidate, readers, kept, 2 * j, 2 * j + 2, low)
 }
 
 // The same of pairs `first` to `end`.
@@ -150,7 +174,7 @@ fn turn_pairs(
     end: usize,
     low: usize,
 ) -> Entered
-    requires { ⌜ Limited counts × (length (now candidate) ≡ words64 (counts .atoms)) × (readerWords counts ≤ length (now readers)) × (usedBy counts ≤ length (now kept)) × (first ≤ end) × (64 * end ≤ counts .atoms) ⌝ }
+    requires { ⌜ Limited counts × (length (now candidate) ≡ words64 (counts .atoms)) × (readerWords counts ≤ length (now readers)) × (usedBy counts ≤ length (now kept)) × (first ≤ end) × (64 * end ≤ counts .atoms) × ((T : Tables) → Begun (listed counts (now readers) T) (now candidate) (now kept) low (2 * first)) ⌝ }
     ensures { λ r. ⌜ ((T : Tables) → Goes (listed counts (now (readers .entry)) T) (now (candidate .entry)) (now (kept .entry)) low (2 * first) r (now (kept .exit)) (2 * end)) ⌝ }
 {
     let mut lowest = low;
@@ -201,35 +225,6 @@ fn turn_blocks(
     Entered::Low(lowest)
 }
 
-// The same of the words behind the whole pairs, two at most.
-fn turn_rest(
-    counts: Counts,
-    candidate: &[u64],
-    readers: &[u64],
-    kept: &mut [u32],
-    low: usize,
-) -> Entered
-    requires { ⌜ Limited counts × (length (now candidate) ≡ words64 (counts .atoms)) × (readerWords counts ≤ length (now readers)) × (usedBy counts ≤ length (now kept)) × ((T : Tables) → Begun (listed counts (now readers) T) (now candidate) (now kept) low (2 * (counts .atoms / 64))) ⌝ }
-    ensures { λ r. ⌜ ((T : Tables) → Goes (listed counts (now (readers .entry)) T) (now (candidate .entry)) (now (kept .entry)) low (2 * (counts .atoms / 64)) r (now (kept .exit)) (words32 (counts .atoms))) ⌝ }
-{
-    let words = (counts.atoms + 31) / 32;
-    let mut lowest = low;
-    let mut i = 2 * (counts.atoms / 64);
-    while i < words {
-        let word = retained::half_word(candidate, i);
-        match turn_word(counts, readers, kept, i, word, lowest) {
-            Entered::Low(m) => {
-                lowest = m;
-            }
-            Entered::Stray => {
-                return Entered::Stray;
-            }
-        }
-        i += 1;
-    }
-    Entered::Low(lowest)
-}
-
 // The new candidate, and the atom nodes of changed atoms on the worklist; `candidate` is its listed words, `blocks` marks where it may differ.
 pub fn start(
     counts: Counts,
@@ -243,7 +238,11 @@ pub fn start(
     ensures { λ r. ⌜ ((T : Tables) → Enters (listed counts (now (readers .entry)) T) (now (kept .entry)) (walkStart (listed counts (now (readers .entry)) T) (member 64 (now (candidate .entry))) (counts .atoms) (ofWords (listed counts (now (readers .entry)) T) (now (kept .entry)))) (lowestEntered (listed counts (now (readers .entry)) T) (member 64 (now (candidate .entry))) (ofWords (listed counts (now (readers .entry)) T) (now (kept .entry)))) r (now (kept .exit))) ⌝ }
 {
     match turn_blocks(counts, candidate, readers, kept, blocks) {
-        Entered::Low(low) => turn_rest(counts, candidate, readers, kept, low),
+        Entered::Low(low) => {
+            let first = 2 * (counts.atoms / 64);
+            let end = (counts.atoms + 31) / 32;
+            turn_words(counts, candidate, readers, kept, first, end, low)
+        }
         Entered::Stray => Entered::Stray,
     }
 }

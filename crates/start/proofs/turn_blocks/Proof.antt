@@ -39,7 +39,8 @@ shr-if1 c = search needs
 
 -- src/lib.rt:190:19
 turn-pairs-requires : tie.Need-turn-pairs-requires Inv-loop μ-loop
-turn-pairs-requires c κs = search needs
+turn-pairs-requires c κs = 
+    (c .before .before .before .before .before .before .before .before .before .pre .0 .0, c .before .before .before .before .before .before .before .before .before .pre .0 .1, c .before .before .before .before .before .before .before .before .before .pre .0 .2, omega (arith, c .before .before .before .before .before .before .before .before .before .pre .0 .3, c .before .before .before .before .loop .inv .1), omega (arith, c .before .before .smaller .ensures, c .before .before .before .loop-test .taken), omega (arith, c .before .before .smaller .ensures), λ T. record { ws = c .before .before .before .before .before .before .before .before .before .args .kept .now; room = c .before .before .before .before .before .before .before .before .before .pre .0 .3; new-within = c .before .before .before .before .before .before .before .before .before .pre .1 .0; kept-within = c .before .before .before .before .before .before .before .before .before .pre .1 .1 (listed (c .before .before .before .before .before .before .before .before .before .args .counts) (c .before .before .before .before .before .before .before .before .before .args .readers .now) T); starting = c .before .before .before .before .loop .inv .0 T })
 
 -- src/lib.rt:191:30
 enum-known-m : tie.Need-enum-known-m Inv-loop μ-loop
