@@ -60,6 +60,10 @@ module _ (at : ℕ) (kept new : List ℕ) (first i n sum r : ℕ) (p : wordChang
   pub sum-most : sum + r ≤ n * 32
   sum-most = omega (arith, words-most at kept new n)
 
+pub all-none : (at : ℕ) (kept new : List ℕ) → 0 ≡ wordChanges at kept new (2 * 0)
+unfolding wordChanges
+all-none at kept new = refl
+
 -- and those from the first word on
 module _ (at : ℕ) (kept new : List ℕ) (i n sum r : ℕ) (p : sum ≡ wordChanges at kept new i) (q : wordChanges at kept new i + r ≡ wordChanges at kept new n) where
   pub all-more : sum + r ≡ wordChanges at kept new n

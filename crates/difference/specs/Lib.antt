@@ -1,4 +1,4 @@
 pub mod ChangedLaws
 pub mod Marks
 pub mod PairLaws
-pub mod BlockLaws
+pub mod MarkLaws

@@ -5,7 +5,7 @@ use mathlib.Core.Path.{_≡_}
 use mathlib.Core.Bool.{false}
 use mathlib.Core.List.{List}
 use lib.ListN.{getD}
-use Rattle.words.specs.Bit.{bit}
+use Rattle.words.specs.Sets.{member}
 use Rattle.theory.specs.declared.Counts.{Counts}
 use Rattle.kept_laws.specs.Given.{candidateAt}
 use Rattle.kept_laws.specs.Halves.{half}
@@ -18,6 +18,10 @@ Same at kept new i = getD kept (at + i) 0 ≡ half new i
 abbrev pub SameFrom : ℕ → List ℕ → List ℕ → ℕ → ℕ → Type 0
 SameFrom at kept new first end = (i : ℕ) → 2 * first ≤ i → i < 2 * end → Same at kept new i
 
--- each word of the whole pairs is the same unless its block of 32 words is marked
-abbrev pub Marked : Counts → List ℕ → List ℕ → ℕ → Type 0
-Marked t kept new blocks = (i : ℕ) → i < 2 * (t .atoms / 64) → bit blocks (i / 32) ≡ false → Same (candidateAt t) kept new i
+-- each word of the first j pairs is the same unless its pair is in the set of marks
+abbrev pub Upto : ℕ → List ℕ → List ℕ → ℕ → List ℕ → Type 0
+Upto at kept new j marks = (i : ℕ) → i < 2 * j → member 64 marks (i / 2) ≡ false → Same at kept new i
+
+-- so of all whole pairs
+abbrev pub Marked : Counts → List ℕ → List ℕ → List ℕ → Type 0
+Marked t kept new marks = Upto (candidateAt t) kept new (t .atoms / 64) marks

@@ -71,6 +71,9 @@ module _ (at : ℕ) (kept new : List ℕ) (first : ℕ) where
       last : i ≡ 2 * j + 1 → Same at kept new i
       last e = rw e (p .1)
 
+  pub from-pair : Pair at kept new first → SameFrom at kept new first (first + 1)
+  from-pair p = from-more first from-none p
+
   -- the gathered differences d are 0 only if every pair was the same
   pub gathered-more : (j d x : ℕ) → (d ≡ 0 → SameFrom at kept new first j)
       → x ≡ getD kept (at + 2 * j) 0 + getD kept (at + 2 * j + 1) 0 * 4294967296

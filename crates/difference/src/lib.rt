@@ -1,7 +1,7 @@
 // How the kept candidate and the new one differ: the first pass of `update` in tight/evaluate.rs.
 ghost use mathlib.Core.Path.{_≡_};
 ghost use mathlib.Core.Bool.{true};
-ghost use Prim.Native.Nat.{_+_, _*_, _%_, _<_, _≤_, min};
+ghost use Prim.Native.Nat.{_+_, _*_, _/_, _<_, _≤_, min};
 ghost use lib.ListN.{length, getD};
 ghost use Rattle.theory.specs.Limits.{Limited};
 ghost use Rattle.words.specs.Changed.{changed};
@@ -13,15 +13,8 @@ ghost use Rattle.kept.specs.Check.{changes};
 ghost use Rattle.kept_laws.specs.Given.{usedBy, sized};
 ghost use Rattle.kept_laws.specs.Halves.{half};
 ghost use Rattle.difference.specs.ChangedLaws.{wordChanges};
-ghost use Rattle.difference.specs.Marks.{Same, SameFrom, Marked};
-ghost use Rattle.difference.specs.BlockLaws.{Upto};
+ghost use Rattle.difference.specs.Marks.{Same, SameFrom, Upto, Marked};
 use theory::Counts;
-
-// How many atoms differ, and in which blocks of 1,024 atoms: place b of `blocks` is set if one of the pairs 16 b to 16 b + 15 may differ.
-pub struct Changes {
-    pub count: usize,
-    pub blocks: u64,
-}
 
 // The smaller of two numbers.
 pub fn smaller(a: usize, b: usize) -> usize
@@ -58,26 +51,36 @@ fn word_changes(candidate: &[u64], kept: &[u32], at: usize, i: usize) -> usize
     words::set32::changed(kept[at + i], new) as usize
 }
 
-// At how many atoms pair j differs.
-fn pair_changes(candidate: &[u64], kept: &[u32], at: usize, j: usize) -> usize
-    requires { ⌜ (j < length (now candidate)) × (at + 2 * j + 1 < length (now kept)) ⌝ }
+// At how many atoms pair j differs; it is marked if it does.
+fn pair_changes(candidate: &[u64], kept: &[u32], at: usize, j: usize, marks: &mut [u64]) -> usize
+    requires { ⌜ (j < length (now candidate)) × (at + 2 * j + 1 < length (now kept)) × (j / 64 < length (now marks)) ⌝ }
     ensures { λ r. ⌜ wordChanges at (now (kept .entry)) (now (candidate .entry)) (2 * j) + r ≡ wordChanges at (now (kept .entry)) (now (candidate .entry)) (2 * (j + 1)) ⌝ }
+    ensures { λ _. ⌜ (Upto at (now (kept .entry)) (now (candidate .entry)) j (now (marks .entry)) → Upto at (now (kept .entry)) (now (candidate .entry)) (j + 1) (now (marks .exit))) ⌝ }
 {
     if same_pair(candidate, kept, at, j) {
         return 0;
     }
+    words::set64::insert(marks, j);
     word_changes(candidate, kept, at, 2 * j) + word_changes(candidate, kept, at, 2 * j + 1)
 }
 
-// At how many atoms pairs `first` to `end` differ.
-fn pairs_changes(candidate: &[u64], kept: &[u32], at: usize, first: usize, end: usize) -> usize
-    requires { ⌜ (first ≤ end) × (end ≤ 1024) × (end ≤ length (now candidate)) × (at + 2 * end ≤ length (now kept)) ⌝ }
+// The same of pairs `first` to `end`.
+fn pairs_changes(
+    candidate: &[u64],
+    kept: &[u32],
+    at: usize,
+    first: usize,
+    end: usize,
+    marks: &mut [u64],
+) -> usize
+    requires { ⌜ (first ≤ end) × (end ≤ 1024) × (end ≤ length (now candidate)) × (at + 2 * end ≤ length (now kept)) × (end ≤ 64 * length (now marks)) ⌝ }
     ensures { λ r. ⌜ wordChanges at (now (kept .entry)) (now (candidate .entry)) (2 * first) + r ≡ wordChanges at (now (kept .entry)) (now (candidate .entry)) (2 * end) ⌝ }
+    ensures { λ _. ⌜ (Upto at (now (kept .entry)) (now (candidate .entry)) first (now (marks .entry)) → Upto at (now (kept .entry)) (now (candidate .entry)) end (now (marks .exit))) ⌝ }
 {
     let mut sum = 0;
     let mut j = first;
     while j < end {
-        sum = sum + pair_changes(candidate, kept, at, j);
+        sum = sum + pair_changes(candidate, kept, at, j, marks);
         j += 1;
     }
     sum
@@ -109,44 +112,39 @@ fn same_pairs(candidate: &[u64], kept: &[u32], at: usize, first: usize, end: usi
     same_block(candidate, kept, at, first)
 }
 
-// `d` with pairs `first` to `end` more, a block of them.
-fn with_block(
+// At how many atoms a block of pairs, `first` to `end`, differs; those that do are marked.
+fn block_changes(
     candidate: &[u64],
     kept: &[u32],
     at: usize,
     first: usize,
     end: usize,
-    d: Changes,
-) -> Changes
-    requires { ⌜ (first % 16 ≡ 0) × (first < end) × (end ≤ first + 16) × (end ≤ 1024) × (end ≤ length (now candidate)) × (at + 2 * end ≤ length (now kept)) ⌝ }
-    requires { ⌜ Upto at (now kept) (now candidate) first (d .count) (d .blocks) ⌝ }
-    ensures { λ r. ⌜ Upto at (now (kept .entry)) (now (candidate .entry)) end (r .count) (r .blocks) ⌝ }
+    marks: &mut [u64],
+) -> usize
+    requires { ⌜ (first ≤ end) × (end ≤ first + 16) × (end ≤ 1024) × (end ≤ length (now candidate)) × (at + 2 * end ≤ length (now kept)) × (end ≤ 64 * length (now marks)) ⌝ }
+    ensures { λ r. ⌜ wordChanges at (now (kept .entry)) (now (candidate .entry)) (2 * first) + r ≡ wordChanges at (now (kept .entry)) (now (candidate .entry)) (2 * end) ⌝ }
+    ensures { λ _. ⌜ (Upto at (now (kept .entry)) (now (candidate .entry)) first (now (marks .entry)) → Upto at (now (kept .entry)) (now (candidate .entry)) end (now (marks .exit))) ⌝ }
 {
     if same_pairs(candidate, kept, at, first, end) {
-        return d;
+        return 0;
     }
-    Changes {
-        count: d.count + pairs_changes(candidate, kept, at, first, end),
-        blocks: d.blocks | (1u64 << (first / 16)),
-    }
+    pairs_changes(candidate, kept, at, first, end, marks)
 }
 
-// How the whole pairs differ.
-fn pairs_difference(candidate: &[u64], kept: &[u32], at: usize, pairs: usize) -> Changes
-    requires { ⌜ (pairs ≤ 1024) × (pairs ≤ length (now candidate)) × (at + 2 * pairs ≤ length (now kept)) ⌝ }
-    ensures { λ r. ⌜ Upto at (now (kept .entry)) (now (candidate .entry)) pairs (r .count) (r .blocks) ⌝ }
+// The same of all whole pairs.
+fn all_changes(candidate: &[u64], kept: &[u32], at: usize, pairs: usize, marks: &mut [u64]) -> usize
+    requires { ⌜ (pairs ≤ 1024) × (pairs ≤ length (now candidate)) × (at + 2 * pairs ≤ length (now kept)) × (pairs ≤ 64 * length (now marks)) ⌝ }
+    ensures { λ r. ⌜ r ≡ wordChanges at (now (kept .entry)) (now (candidate .entry)) (2 * pairs) ⌝ }
+    ensures { λ _. ⌜ Upto at (now (kept .entry)) (now (candidate .entry)) pairs (now (marks .exit)) ⌝ }
 {
-    let mut d = Changes {
-        count: 0,
-        blocks: 0,
-    };
+    let mut sum = 0;
     let mut j = 0;
     while j < pairs {
         let end = smaller(j + 16, pairs);
-        d = with_block(candidate, kept, at, j, end, d);
+        sum = sum + block_changes(candidate, kept, at, j, end, marks);
         j = end;
     }
-    d
+    sum
 }
 
 // At how many atoms words `first` to `words` differ: those behind the whole pairs, two at most.
@@ -163,19 +161,15 @@ fn rest_changes(candidate: &[u64], kept: &[u32], at: usize, first: usize, words:
     sum
 }
 
-// How the candidates differ; `candidate` is the new one's listed words.
-pub fn difference(counts: Counts, candidate: &[u64], kept: &[u32]) -> Changes
-    requires { ⌜ Limited counts × (length (now candidate) ≡ words64 (counts .atoms)) × (usedBy counts ≤ length (now kept)) ⌝ }
-    ensures { λ r. ⌜ ((T : Tables) → r .count ≡ changes (member 64 (now (candidate .entry))) (ofWords (sized counts T) (now (kept .entry)))) ⌝ }
-    ensures { λ r. ⌜ Marked counts (now (kept .entry)) (now (candidate .entry)) (r .blocks) ⌝ }
+// At how many atoms the candidates differ; the whole pairs that do are marked. `candidate` is the new one's listed words.
+pub fn difference(counts: Counts, candidate: &[u64], kept: &[u32], marks: &mut [u64]) -> usize
+    requires { ⌜ Limited counts × (length (now candidate) ≡ words64 (counts .atoms)) × (usedBy counts ≤ length (now kept)) × (counts .atoms / 64 ≤ 64 * length (now marks)) ⌝ }
+    ensures { λ r. ⌜ ((T : Tables) → r ≡ changes (member 64 (now (candidate .entry))) (ofWords (sized counts T) (now (kept .entry)))) ⌝ }
+    ensures { λ _. ⌜ Marked counts (now (kept .entry)) (now (candidate .entry)) (now (marks .exit)) ⌝ }
 {
     let n = counts.nodes;
     let at = 16 + n + (n + 31) / 32 + counts.atoms;
     let pairs = counts.atoms / 64;
-    let d = pairs_difference(candidate, kept, at, pairs);
-    let rest = rest_changes(candidate, kept, at, 2 * pairs, (counts.atoms + 31) / 32);
-    Changes {
-        count: d.count + rest,
-        blocks: d.blocks,
-    }
+    let whole = all_changes(candidate, kept, at, pairs, marks);
+    whole + rest_changes(candidate, kept, at, 2 * pairs, (counts.atoms + 31) / 32)
 }

@@ -2,7 +2,6 @@
 -- Assumes nothing.
 use Prim.Native.Nat.{ℕ, _*_, _≤_}
 use mathlib.Core.Path.{_≡_}
-use mathlib.Core.Bool.{Bool, true, false}
 use mathlib.Core.List.{List, _++_}
 use lib.ListN.{drop, replicate}
 use Rattle.theory.specs.Limits.{Limited}
@@ -16,8 +15,6 @@ use Rattle.update.specs.Results.{answerOf}
 use Rattle.update.specs.declared.Checked.{Checked}
 use Rattle.update.specs.declared.Checked.the-variants.{Accepted, Refused}
 use Rattle.evaluate.specs.declared.Plan.{Plan}
-use Rattle.evaluate.specs.declared.Way.{Way}
-use Rattle.evaluate.specs.declared.Way.the-variants.{Kept, Fresh}
 
 -- the slices are as long as the counts say
 pub record Lent (t : Counts) (candidate nodes operands roots producers kept : ℕ) : Type 0 where
@@ -28,11 +25,6 @@ pub record Lent (t : Counts) (candidate nodes operands roots producers kept : �
   pub roots-long : t .roots ≤ roots
   pub producers-long : 4 * t .roots ≤ producers
   pub kept-long : usedBy t ≤ kept
-
--- whether it is a kept check
-abbrev pub isWay : Way → Bool
-isWay (Kept blocks) = true
-isWay Fresh = false
 
 abbrev pub tablesOf : Counts → Plan → List ℕ → List ℕ → List ℕ → List ℕ → List ℕ → Tables
 tablesOf t plan nodes operands roots producers readers =

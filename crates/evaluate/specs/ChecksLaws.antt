@@ -3,11 +3,12 @@
 use Prim.Native.Nat.{ℕ, _<_, _≤_, _+_, _-_, _*_, _/_, max}
 use native.Mathlib.Omega.{arith}
 use mathlib.Core.Path.{_≡_, ap, ap₂, sym, _∙_}
-use mathlib.Core.Bool.{true, false, false≢true}
+use mathlib.Core.Bool.{true, false}
 use mathlib.Core.List.{List, _++_}
+use lib.Dec.{leb}
 use lib.ListN.{length, getD, drop, replicate}
 use lib.Seq.{drop-drop}
-use borrow.Author.Tests.{eq-eqb, ne-eqb, lt-ltb, le-ltb, le-leb, lt-leb}
+use borrow.Author.Tests.{eq-eqb, ne-eqb, lt-ltb, le-ltb}
 use Rattle.formula.specs.Satisfaction.{Interpretation}
 use Rattle.formula.specs.Passes.{Within}
 use Rattle.readers.specs.ReaderTable.{readerWords}
@@ -15,7 +16,6 @@ use Rattle.theory.specs.Admission.{orElse}
 use Rattle.theory.specs.Limits.{limitsOf, Limited}
 use Rattle.theory.specs.LimitsLaws.{within-limits}
 use Rattle.theory.specs.Refusals.{or-else-left}
-use Rattle.theory.specs.declared.Counts.{Counts}
 use Rattle.theory.specs.declared.Admission.{Admission}
 use Rattle.theory.specs.declared.Admission.the-variants.{Admitted, Refused}
 use Rattle.theory.specs.declared.Refusal.{Refusal}
@@ -45,9 +45,7 @@ use Rattle.update.specs.declared.Checked as checks
 use Rattle.update.specs.declared.Checked.the-variants as cases
 use Rattle.update.specs.Results.{answerOf, answerIn, Results}
 use Rattle.update.specs.ResultsLaws.{refused-results, concluded-results, results-by}
-use Rattle.difference.specs.Marks.{Marked}
-use Rattle.evaluate.specs.declared.Way.the-variants.{Kept, Fresh}
-use Rattle.evaluate.specs.Checks.{isWay, outcomeOf, settled}
+use Rattle.evaluate.specs.Checks.{outcomeOf, settled}
 
 -- ---- what the tests give
 
@@ -80,14 +78,6 @@ passed T c size e =
 
 -- ---- whether it is kept
 
--- a fresh check has no marks
-pub no-marks : (t : Counts) (kept new : List ℕ) (b : ℕ) → Fresh ≡ Kept b → Marked t kept new b
-no-marks t kept new b p = absurd (false≢true (ap isWay p))
-
--- a kept check has its own
-pub its-marks : (t : Counts) (kept new : List ℕ) (blocks b : ℕ) → Marked t kept new blocks → Kept blocks ≡ Kept b → Marked t kept new b
-its-marks t kept new blocks b m p = let q : blocks ≡ b = cc in rw q at m
-
 module _ (T : Tables) (J : Interpretation) (ws : List ℕ) where
   abbrev e : Evaluation
   e = ofWords T ws
@@ -100,14 +90,9 @@ module _ (T : Tables) (J : Interpretation) (ws : List ℕ) where
   unfolding isKept ofWords
   not-mine p h = sym (rw (eq-eqb (getD ws 0 0) 1 p, ne-eqb (getD ws 1 0) (T .counts .stamp) h))
 
-  module _ (n m : ℕ) (p : getD ws 0 0 ≡ 1) (s : getD ws 1 0 ≡ T .counts .stamp) (q : n ≡ changes J e) (r : m ≡ max 64 (atomCount T / 8)) where
-    pub kept-by : n ≤ m → true ≡ isKept 64 8 T J e
-    unfolding isKept ofWords
-    kept-by l = sym (rw (eq-eqb (getD ws 0 0) 1 p, eq-eqb (getD ws 1 0) (T .counts .stamp) s, ← q, ← r, le-leb n m l))
-
-    pub too-many : m < n → false ≡ isKept 64 8 T J e
-    unfolding isKept ofWords
-    too-many l = sym (rw (eq-eqb (getD ws 0 0) 1 p, eq-eqb (getD ws 1 0) (T .counts .stamp) s, ← q, ← r, lt-leb n m l))
+  pub kept-by : (n m : ℕ) → getD ws 0 0 ≡ 1 → getD ws 1 0 ≡ T .counts .stamp → n ≡ changes J e → m ≡ max 64 (atomCount T / 8) → leb n m ≡ isKept 64 8 T J e
+  unfolding isKept ofWords
+  kept-by n m p s q r = sym (rw (eq-eqb (getD ws 0 0) 1 p, eq-eqb (getD ws 1 0) (T .counts .stamp) s, q, r))
 
   -- ---- fresh
 

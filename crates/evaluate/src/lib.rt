@@ -1,6 +1,7 @@
 // The public check of a candidate (`check` and `evaluate` of tight/evaluate.rs): kept where a check of this stamp is held and few atoms changed, else fresh.
 ghost use mathlib.Core.Path.{_≡_};
-ghost use Prim.Native.Nat.{ℕ, _+_, _*_, _/_, _<_, _≤_, max};
+ghost use mathlib.Core.Bool.{true};
+ghost use Prim.Native.Nat.{_+_, _*_, _/_, _<_, _≤_, max};
 ghost use lib.ListN.{length};
 ghost use Rattle.formula.specs.Passes.{Within};
 ghost use Rattle.words.specs.Sets.{member};
@@ -14,8 +15,7 @@ ghost use Rattle.kept.specs.Outcome.{outcome};
 ghost use Rattle.kept_laws.specs.Given.{usedBy, sized, planned};
 ghost use Rattle.difference.specs.Marks.{Marked};
 ghost use Rattle.update.specs.Results.{lent, Results};
-ghost use Rattle.evaluate.specs.declared.Way.the-variants.{Kept};
-ghost use Rattle.evaluate.specs.Checks.{isWay, Lent, tablesOf, candidateOf, outcomeOf, settled};
+ghost use Rattle.evaluate.specs.Checks.{Lent, tablesOf, candidateOf, outcomeOf, settled};
 use tests::Lengths;
 use theory::Admission;
 use theory::Counts;
@@ -28,29 +28,19 @@ pub struct Plan {
     pub producers: usize,
 }
 
-// Which check is made: kept, with marks of where the candidate may differ, or fresh.
-pub enum Way {
-    Kept(u64),
-    Fresh,
-}
-
-// Kept where a check of this stamp is held and at most max(64, atoms / 8) atoms changed.
-fn kept_or_fresh(counts: Counts, candidate: &[u64], kept: &[u32]) -> Way
-    requires { ⌜ Limited counts × (length (now candidate) ≡ words64 (counts .atoms)) × (usedBy counts ≤ length (now kept)) ⌝ }
-    ensures { λ r. ⌜ ((T : Tables) → isWay r ≡ isKept 64 8 (sized counts T) (member 64 (now (candidate .entry))) (ofWords (sized counts T) (now (kept .entry)))) ⌝ }
-    ensures { λ r. ⌜ ((b : ℕ) → r ≡ Kept b → Marked counts (now (kept .entry)) (now (candidate .entry)) b) ⌝ }
+// Whether a check of this stamp is held and at most max(64, atoms / 8) atoms changed; then the pairs of words that differ are marked.
+fn is_kept(counts: Counts, candidate: &[u64], kept: &[u32], marks: &mut [u64]) -> bool
+    requires { ⌜ Limited counts × (length (now candidate) ≡ words64 (counts .atoms)) × (usedBy counts ≤ length (now kept)) × (counts .atoms / 64 ≤ 64 * length (now marks)) ⌝ }
+    ensures { λ r. ⌜ ((T : Tables) → r ≡ isKept 64 8 (sized counts T) (member 64 (now (candidate .entry))) (ofWords (sized counts T) (now (kept .entry)))) ⌝ }
+    ensures { λ r. ⌜ (r ≡ true → Marked counts (now (kept .entry)) (now (candidate .entry)) (now (marks .exit))) ⌝ }
 {
     if kept[0] != 1 {
-        return Way::Fresh;
+        return false;
     }
     if kept[1] != counts.stamp {
-        return Way::Fresh;
+        return false;
     }
-    let changes = difference::difference(counts, candidate, kept);
-    if changes.count > words::greater(64, counts.atoms / 8) {
-        return Way::Fresh;
-    }
-    Way::Kept(changes.blocks)
+    difference::difference(counts, candidate, kept, marks) <= words::greater(64, counts.atoms / 8)
 }
 
 // A fresh check: the evaluation laid anew, then the verdict.
@@ -82,7 +72,50 @@ fn fresh(
     }
 }
 
-// The check of a candidate that passed the tests; `candidate` is its listed words.
+// The check of a candidate that passed the tests, of a plan with at most as many producers as roots; `candidate` is its listed words, `marks` a set of pairs of them.
+fn evaluate_with(
+    counts: Counts,
+    made: usize,
+    candidate: &[u64],
+    nodes: &[u32],
+    operands: &[u32],
+    roots: &[u32],
+    producers: &[u32],
+    readers: &[u64],
+    kept: &mut [u32],
+    marks: &mut [u64],
+) -> Checked
+    requires { ⌜ Lent counts (length (now candidate)) (length (now nodes)) (length (now operands)) (length (now roots)) (length (now producers)) (length (now kept)) × (readerWords counts ≤ length (now readers)) × Within (counts .atoms) (member 64 (now candidate)) × (made ≤ counts .roots) × (counts .atoms / 64 ≤ 64 * length (now marks)) × (length (now marks) ≤ 16) ⌝ }
+    ensures { λ r. ⌜ ((T : Tables) → Results (lent counts made (now (nodes .entry)) (now (operands .entry)) (now (roots .entry)) (now (producers .entry)) (now (readers .entry)) T) (now (kept .entry)) (result 64 8 (lent counts made (now (nodes .entry)) (now (operands .entry)) (now (roots .entry)) (now (producers .entry)) (now (readers .entry)) T) (member 64 (now (candidate .entry))) (ofWords (lent counts made (now (nodes .entry)) (now (operands .entry)) (now (roots .entry)) (now (producers .entry)) (now (readers .entry)) T) (now (kept .entry)))) r (now (kept .exit))) ⌝ }
+{
+    if is_kept(counts, candidate, kept, marks) {
+        update::update(
+            counts,
+            made,
+            candidate,
+            nodes,
+            operands,
+            roots,
+            producers,
+            readers,
+            kept,
+            marks,
+        )
+    } else {
+        fresh(
+            counts,
+            made,
+            candidate,
+            nodes,
+            operands,
+            roots,
+            producers,
+            kept,
+        )
+    }
+}
+
+// The same of any plan.
 fn evaluate(
     counts: Counts,
     made: usize,
@@ -100,30 +133,20 @@ fn evaluate(
     if made > counts.roots {
         return Checked::Refused(Refusal::BadEntry(0));
     }
-    match kept_or_fresh(counts, candidate, kept) {
-        Way::Kept(blocks) => update::update(
-            counts,
-            made,
-            candidate,
-            nodes,
-            operands,
-            roots,
-            producers,
-            readers,
-            kept,
-            blocks,
-        ),
-        Way::Fresh => fresh(
-            counts,
-            made,
-            candidate,
-            nodes,
-            operands,
-            roots,
-            producers,
-            kept,
-        ),
-    }
+    let mut marks = [0u64; 16];
+    let size = (counts.atoms / 64 + 63) / 64;
+    evaluate_with(
+        counts,
+        made,
+        candidate,
+        nodes,
+        operands,
+        roots,
+        producers,
+        readers,
+        kept,
+        &mut marks[..size],
+    )
 }
 
 // After refusal 17 the listed words, n of them, are 0.

@@ -1,6 +1,6 @@
 -- A call over some words of the candidate, between the words before them and those behind them.
 -- Assumes nothing.
-use Prim.Native.Nat.{ℕ, _<_, _≤_, _+_, _-_, _*_, _/_, _%_, _^_}
+use Prim.Native.Nat.{ℕ, _<_, _≤_, _+_, _-_, _*_, _/_, _%_, _^_, min}
 use native.Mathlib.Omega.{arith}
 use mathlib.Core.Path.{_≡_, refl, ap, sym, _∙_}
 use mathlib.Core.Logic.{⊎-elim}
@@ -14,6 +14,8 @@ use Rattle.formula.specs.Satisfaction.{Interpretation}
 use Rattle.formula.specs.Passes.{Within}
 use Rattle.words.specs.Bit.{bit}
 use Rattle.words.specs.Sets.{member}
+use Rattle.words.specs.Next.{next}
+use Rattle.words.specs.NextLaws.{next-is}
 use Rattle.kept.specs.SetOf.{words32}
 use Rattle.kept.specs.Tables.{Tables, atomCount, nodeCount}
 use Rattle.kept.specs.Evaluation.{present}
@@ -21,7 +23,7 @@ use Rattle.kept.specs.Start.{walkStart, leastNode, lowestEntered}
 use Rattle.kept.specs.Layout.{ofWords, used, candidateStart}
 use Rattle.kept_laws.specs.Halves.{half}
 use Rattle.kept_laws.specs.StartChanged.{allTurned}
-use Rattle.difference.specs.Marks.{Same}
+use Rattle.difference.specs.Marks.{Upto}
 use Rattle.start.specs.declared.Entered.{Entered}
 use Rattle.start.specs.declared.Entered.the-variants.{Low, Stray}
 use Rattle.start.specs.Enters.{Enters}
@@ -47,16 +49,6 @@ module _ (T : Tables) (new before : List ℕ) (low i : ℕ) where
   unfolding Goes Continued
   goes-none ws room wn wk s = s
 
-  -- a 17 ends it
-  pub goes-stray : (r : Entered) (after : List ℕ) (j k : ℕ) → r ≡ Stray → Goes T new before low i r after j → Goes T new before low i Stray after k
-  unfolding Goes Continued
-  goes-stray r after j k p g ws room wn wk s = rw p at (g ws room wn wk s)
-
-  pub goes-then : (q : Entered) (mid : List ℕ) (m j : ℕ) → q ≡ Low m → Goes T new before low i q mid j → (r : Entered) (after : List ℕ) (k : ℕ)
-      → Goes T new mid m j r after k → Goes T new before low i r after k
-  unfolding Goes Continued
-  goes-then q mid m j p g r after k h ws room wn wk s = h ws room wn wk (rw p at (g ws room wn wk s))
-
   -- word i
   pub goes-word : (x : ℕ) → i < words32 (atomCount T) → x ≡ half new i → (r : Entered) (after : List ℕ) (j : ℕ) → j ≡ i + 1
       → ((J : Interpretation) → ((k : ℕ) → k < 32 → J (i * 32 + k) ≡ bit x k)
@@ -70,16 +62,6 @@ module _ (T : Tables) (new before : List ℕ) (low i : ℕ) where
           → Continued T new ws r after (i + 1)
       go (Low m) e = starting-more T new ws room wn wk before low i s l x q (Low m) after e m refl
       go Stray e = starting-stray T new ws room wn wk before low i s l x q Stray after e refl
-
-  -- two words that stand as the new candidate has them
-  pub goes-same : i + 2 ≤ words32 (atomCount T) → Same (candidateStart T) before new i → Same (candidateStart T) before new (i + 1) → (j : ℕ) → j ≡ i + 2 → Goes T new before low i (Low low) before j
-  unfolding Goes Continued
-  goes-same l p q j e ws room wn wk s =
-      rw e (starting-skip T new ws room wn wk before low i 2 s l
-      (λ a x y. ⊎-elim
-      (λ b. same-word T new ws room wn wk before low i s i (omega arith) (omega arith) p a x (omega arith))
-      (λ b. same-word T new ws room wn wk before low i s (i + 1) (omega arith) (omega arith) q a (omega arith) (omega arith))
-      (below-or a (i * 32 + 32))))
 
   -- a call more, in a loop
   module _ (l : ℕ) (mid : List ℕ) (j : ℕ) (g : Goes T new before low i (Low l) mid j) (r : Entered) (after : List ℕ) (k n : ℕ) (h : Goes T new mid l j r after k) where
@@ -111,10 +93,6 @@ module _ (T : Tables) (new ws : List ℕ) where
   unfolding Continued
   continued-end r mid i p c = rw p at c
 
-  unmarked : (blocks b : ℕ) → (blocks / 2 ^ b % 2 ≡ 1 → ⊥) → bit blocks b ≡ false
-  unfolding bit
-  unmarked blocks b off = ne-eqb (blocks / 2 ^ b % 2) 1 off
-
   module _ (room : used T ≤ length ws) (wn : Within (atomCount T) (member 64 new)) (wk : Within (atomCount T) (present (ofWords T ws))) where
     pub continued-done : (r : Entered) (after : List ℕ) → Continued T new ws r after (words32 (atomCount T))
         → Enters T ws (walkStart T (member 64 new) (atomCount T) (ofWords T ws)) (lowestEntered T (member 64 new) (ofWords T ws)) r after
@@ -127,15 +105,15 @@ module _ (T : Tables) (new ws : List ℕ) where
       unfolding Goes
       goes-from i r after j g s = g ws room wn wk s
 
-      -- a block that is not marked
-      pub starting-block : (j end blocks : ℕ) → Starting T new ws mid less (2 * j)
-          → ((i : ℕ) → i < 2 * (atomCount T / 64) → bit blocks (i / 32) ≡ false → Same (candidateStart T) ws new i)
-          → (blocks / 2 ^ (j / 16) % 2 ≡ 1 → ⊥) → j % 16 ≡ 0 → j ≤ end → end ≤ j + 16 → end ≤ atomCount T / 64 → Starting T new ws mid less (2 * end)
-      starting-block j end blocks s marked off whole l m n =
-          let upto : 2 * end ≡ 2 * j + 2 * (end - j) = omega arith in
-          rw upto (starting-skip T new ws room wn wk mid less (2 * j) (2 * (end - j)) s (omega arith) (λ a x y.
+      -- pairs that are not marked, from pair p to the next mark or the last whole pair
+      pub starting-marked : (marks : List ℕ) (p j : ℕ) → Starting T new ws mid less (2 * p) → Upto (candidateStart T) ws new (atomCount T / 64) marks
+          → j ≡ next 64 marks p → p ≤ atomCount T / 64 → Starting T new ws mid less (2 * min j (atomCount T / 64))
+      starting-marked marks p j s marked q l =
+          let from : p ≤ j = rw q (next-is 64 marks p .from) in
+          let upto : 2 * min j (atomCount T / 64) ≡ 2 * p + 2 * (min j (atomCount T / 64) - p) = omega arith in
+          rw upto (starting-skip T new ws room wn wk mid less (2 * p) (2 * (min j (atomCount T / 64) - p)) s (omega arith) (λ a x y.
           same-word T new ws room wn wk ws (nodeCount T) 0 (starting-first T new ws room wn wk) (a / 32) (omega arith) (omega arith)
-          (marked (a / 32) (omega arith) (let b : a / 32 / 32 ≡ j / 16 = omega arith in rw b (unmarked blocks (j / 16) off))) a (omega arith) (omega arith)))
+          (marked (a / 32) (omega arith) (next-is 64 marks p .before (a / 32 / 2) (omega arith) (rw (← q) (omega arith)))) a (omega arith) (omega arith)))
 
 -- the places at which word j differs are atoms, if the start has come to it
 pub begun-within : (T : Tables) (new before : List ℕ) (low i : ℕ) → Begun T new before low i → (mid : List ℕ) (less j : ℕ) → Goes T new before low i (Low less) mid j
@@ -143,8 +121,3 @@ pub begun-within : (T : Tables) (new before : List ℕ) (low i : ℕ) → Begun 
 unfolding Goes Continued
 begun-within T new before low i b mid less j g l x q =
     starting-within T new (b .ws) (b .room) (b .new-within) (b .kept-within) mid less j (g (b .ws) (b .room) (b .new-within) (b .kept-within) (b .starting)) l x q
-
-pub begun-on : (T : Tables) (new before : List ℕ) (low i : ℕ) → Begun T new before low i → (mid : List ℕ) (less j : ℕ) → Goes T new before low i (Low less) mid j → Begun T new mid less j
-unfolding Goes Continued
-begun-on T new before low i b mid less j g =
-    record { ws = b .ws; room = b .room; new-within = b .new-within; kept-within = b .kept-within; starting = g (b .ws) (b .room) (b .new-within) (b .kept-within) (b .starting) }

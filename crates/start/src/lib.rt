@@ -144,43 +144,23 @@ fn turn_words(
     Entered::Low(lowest)
 }
 
-// The same of pair j, words 2 j and 2 j + 1, if one of them differs.
-fn turn_pair(
+// The same of the marked pairs: those of whole pairs that are not marked stand as the new candidate has them.
+fn turn_marked(
     counts: Counts,
     candidate: &[u64],
     readers: &[u64],
     kept: &mut [u32],
-    j: usize,
-    low: usize,
+    marks: &[u64],
 ) -> Entered
-    requires { ⌜ Limited counts × (length (now candidate) ≡ words64 (counts .atoms)) × (readerWords counts ≤ length (now readers)) × (usedBy counts ≤ length (now kept)) × (64 * j + 64 ≤ counts .atoms) × ((T : Tables) → Begun (listed counts (now readers) T) (now candidate) (now kept) low (2 * j)) ⌝ }
-    ensures { λ r. ⌜ ((T : Tables) → Goes (listed counts (now (readers .entry)) T) (now (candidate .entry)) (now (kept .entry)) low (2 * j) r (now (kept .exit)) (2 * j + 2)) ⌝ }
+    requires { ⌜ Limited counts × (length (now candidate) ≡ words64 (counts .atoms)) × (readerWords counts ≤ length (now readers)) × (usedBy counts ≤ length (now kept)) × Marked counts (now kept) (now candidate) (now marks) × (counts .atoms / 64 ≤ 64 * length (now marks)) × (length (now marks) ≤ 16) ⌝ }
+    requires { ⌜ Within (counts .atoms) (member 64 (now candidate)) × ((T : Tables) → Within (counts .atoms) (present (ofWords (sized counts T) (now kept)))) ⌝ }
+    ensures { λ r. ⌜ ((T : Tables) → Continued (listed counts (now (readers .entry)) T) (now (candidate .entry)) (now (kept .entry)) r (now (kept .exit)) (2 * (counts .atoms / 64))) ⌝ }
 {
-    let n = counts.nodes;
-    let at = 16 + n + (n + 31) / 32 + counts.atoms;
-    if difference::same_pair(candidate, kept, at, j) {
-        return Entered::Low(low);
-    }
-    turn_words(counts, candidate, readers, kept, 2 * j, 2 * j + 2, low)
-}
-
-// The same of pairs `first` to `end`.
-fn turn_pairs(
-    counts: Counts,
-    candidate: &[u64],
-    readers: &[u64],
-    kept: &mut [u32],
-    first: usize,
-    end: usize,
-    low: usize,
-) -> Entered
-    requires { ⌜ Limited counts × (length (now candidate) ≡ words64 (counts .atoms)) × (readerWords counts ≤ length (now readers)) × (usedBy counts ≤ length (now kept)) × (first ≤ end) × (64 * end ≤ counts .atoms) × ((T : Tables) → Begun (listed counts (now readers) T) (now candidate) (now kept) low (2 * first)) ⌝ }
-    ensures { λ r. ⌜ ((T : Tables) → Goes (listed counts (now (readers .entry)) T) (now (candidate .entry)) (now (kept .entry)) low (2 * first) r (now (kept .exit)) (2 * end)) ⌝ }
-{
-    let mut lowest = low;
-    let mut j = first;
-    while j < end {
-        match turn_pair(counts, candidate, readers, kept, j, lowest) {
+    let pairs = counts.atoms / 64;
+    let mut lowest = counts.nodes;
+    let mut j = words::set64::next(marks, 0);
+    while j < pairs {
+        match turn_words(counts, candidate, readers, kept, 2 * j, 2 * j + 2, lowest) {
             Entered::Low(m) => {
                 lowest = m;
             }
@@ -188,56 +168,24 @@ fn turn_pairs(
                 return Entered::Stray;
             }
         }
-        j += 1;
+        j = words::set64::next(marks, j + 1);
     }
     Entered::Low(lowest)
 }
 
-// The same of all whole pairs, by blocks: those that are not marked stand as the new candidate has them.
-fn turn_blocks(
-    counts: Counts,
-    candidate: &[u64],
-    readers: &[u64],
-    kept: &mut [u32],
-    blocks: u64,
-) -> Entered
-    requires { ⌜ Limited counts × (length (now candidate) ≡ words64 (counts .atoms)) × (readerWords counts ≤ length (now readers)) × (usedBy counts ≤ length (now kept)) × Marked counts (now kept) (now candidate) blocks ⌝ }
-    requires { ⌜ Within (counts .atoms) (member 64 (now candidate)) × ((T : Tables) → Within (counts .atoms) (present (ofWords (sized counts T) (now kept)))) ⌝ }
-    ensures { λ r. ⌜ ((T : Tables) → Continued (listed counts (now (readers .entry)) T) (now (candidate .entry)) (now (kept .entry)) r (now (kept .exit)) (2 * (counts .atoms / 64))) ⌝ }
-{
-    let pairs = counts.atoms / 64;
-    let mut lowest = counts.nodes;
-    let mut j = 0;
-    while j < pairs {
-        let end = difference::smaller(j + 16, pairs);
-        if (blocks >> (j / 16)) % 2 == 1 {
-            match turn_pairs(counts, candidate, readers, kept, j, end, lowest) {
-                Entered::Low(m) => {
-                    lowest = m;
-                }
-                Entered::Stray => {
-                    return Entered::Stray;
-                }
-            }
-        }
-        j = end;
-    }
-    Entered::Low(lowest)
-}
-
-// The new candidate, and the atom nodes of changed atoms on the worklist; `candidate` is its listed words, `blocks` marks where it may differ.
+// The new candidate, and the atom nodes of changed atoms on the worklist; `candidate` is its listed words, `marks` the pairs of its words that may differ.
 pub fn start(
     counts: Counts,
     candidate: &[u64],
     readers: &[u64],
     kept: &mut [u32],
-    blocks: u64,
+    marks: &[u64],
 ) -> Entered
-    requires { ⌜ Limited counts × (length (now candidate) ≡ words64 (counts .atoms)) × (readerWords counts ≤ length (now readers)) × (usedBy counts ≤ length (now kept)) × Marked counts (now kept) (now candidate) blocks ⌝ }
+    requires { ⌜ Limited counts × (length (now candidate) ≡ words64 (counts .atoms)) × (readerWords counts ≤ length (now readers)) × (usedBy counts ≤ length (now kept)) × Marked counts (now kept) (now candidate) (now marks) × (counts .atoms / 64 ≤ 64 * length (now marks)) × (length (now marks) ≤ 16) ⌝ }
     requires { ⌜ Within (counts .atoms) (member 64 (now candidate)) × ((T : Tables) → Within (counts .atoms) (present (ofWords (sized counts T) (now kept)))) ⌝ }
     ensures { λ r. ⌜ ((T : Tables) → Enters (listed counts (now (readers .entry)) T) (now (kept .entry)) (walkStart (listed counts (now (readers .entry)) T) (member 64 (now (candidate .entry))) (counts .atoms) (ofWords (listed counts (now (readers .entry)) T) (now (kept .entry)))) (lowestEntered (listed counts (now (readers .entry)) T) (member 64 (now (candidate .entry))) (ofWords (listed counts (now (readers .entry)) T) (now (kept .entry)))) r (now (kept .exit))) ⌝ }
 {
-    match turn_blocks(counts, candidate, readers, kept, blocks) {
+    match turn_marked(counts, candidate, readers, kept, marks) {
         Entered::Low(low) => {
             let first = 2 * (counts.atoms / 64);
             let end = (counts.atoms + 31) / 32;

@@ -1,6 +1,6 @@
 // A kept check: the walk from the kept candidate to the new one (`update` of tight/evaluate.rs).
 ghost use mathlib.Core.Path.{_≡_};
-ghost use Prim.Native.Nat.{suc, _+_, _*_, _<_, _≤_};
+ghost use Prim.Native.Nat.{suc, _+_, _*_, _/_, _<_, _≤_};
 ghost use lib.Dec.{ltb};
 ghost use lib.ListN.{length};
 ghost use Rattle.formula.specs.Passes.{Within};
@@ -87,7 +87,7 @@ fn stray_member(counts: Counts, kept: &[u32]) -> bool
     words::set32::next(&kept[at..at + size], a) < 32 * size
 }
 
-// The kept evaluation brought to the new candidate, whose listed words `candidate` is; `blocks` marks where it may differ.
+// The kept evaluation brought to the new candidate, whose listed words `candidate` is; `marks` the pairs of its words that may differ.
 pub fn update(
     counts: Counts,
     made: usize,
@@ -98,15 +98,15 @@ pub fn update(
     producers: &[u32],
     readers: &[u64],
     kept: &mut [u32],
-    blocks: u64,
+    marks: &[u64],
 ) -> Checked
-    requires { ⌜ Lent counts made (length (now nodes)) (length (now operands)) (length (now producers)) (length (now readers)) (length (now kept)) × (counts .roots ≤ length (now roots)) × (length (now candidate) ≡ words64 (counts .atoms)) × Within (counts .atoms) (member 64 (now candidate)) × Marked counts (now kept) (now candidate) blocks ⌝ }
+    requires { ⌜ Lent counts made (length (now nodes)) (length (now operands)) (length (now producers)) (length (now readers)) (length (now kept)) × (counts .roots ≤ length (now roots)) × (length (now candidate) ≡ words64 (counts .atoms)) × Within (counts .atoms) (member 64 (now candidate)) × Marked counts (now kept) (now candidate) (now marks) × (counts .atoms / 64 ≤ 64 * length (now marks)) × (length (now marks) ≤ 16) ⌝ }
     ensures { λ r. ⌜ ((T : Tables) → Results (lent counts made (now (nodes .entry)) (now (operands .entry)) (now (roots .entry)) (now (producers .entry)) (now (readers .entry)) T) (now (kept .entry)) (keptResult (lent counts made (now (nodes .entry)) (now (operands .entry)) (now (roots .entry)) (now (producers .entry)) (now (readers .entry)) T) (keptWalk (lent counts made (now (nodes .entry)) (now (operands .entry)) (now (roots .entry)) (now (producers .entry)) (now (readers .entry)) T) (member 64 (now (candidate .entry))) (ofWords (lent counts made (now (nodes .entry)) (now (operands .entry)) (now (roots .entry)) (now (producers .entry)) (now (readers .entry)) T) (now (kept .entry))))) r (now (kept .exit))) ⌝ }
 {
     if stray_member(counts, kept) {
         return Checked::Refused(Refusal::BadEntry(0));
     }
-    match start::start(counts, candidate, readers, kept, blocks) {
+    match start::start(counts, candidate, readers, kept, marks) {
         Entered::Stray => Checked::Refused(Refusal::BadEntry(0)),
         Entered::Low(from) => walk(
             counts,

@@ -1,38 +1,55 @@
 use Prim.Native.Nat.{_+_, _*_, _-_, _≤_}
 use native.Mathlib.Nat.{add-zero}
 use native.Mathlib.Omega.{arith}
-use mathlib.Core.Path.{_≡_}
+use mathlib.Core.Path.{_≡_, refl, _∙_}
+use lib.ListN.{length}
 use borrow.Author.Needs.{needs}
+use Rattle.difference.specs.Marks.{Upto}
 use Rattle.difference.specs.ChangedLaws.{wordChanges, sum-more, sum-most}
 use Rattle.difference.proofs.pairs_changes.Statement.{statement}
 use Rattle.difference.proofs.pairs_changes.Tie as tie
+use Rattle.difference.proofs.pairs_changes.Reads as reads
+use Rattle.difference.proofs.pairs_changes.Lts as lts
+use Rattle.difference.proofs.pair_changes.Reads as pair-changes-reads
 
 abbrev Inv-loop : tie.InvT-loop
-Inv-loop candidate kept at first end sum₀ j₀ sum j = (wordChanges at kept candidate (2 * first) + sum ≡ wordChanges at kept candidate (2 * j)) × (j ≤ end)
+Inv-loop candidate kept at first end marks₀ sum₀ j₀ marks sum j =
+    (wordChanges at kept candidate (2 * first) + sum ≡ wordChanges at kept candidate (2 * j)) × (Upto at kept candidate first marks₀ → Upto at kept candidate j marks) × (length marks ≡ length marks₀) × (j ≤ end)
 
 abbrev μ-loop : tie.MeasureT-loop
-μ-loop candidate kept at first end sum₀ j₀ sum j = end - j
+μ-loop candidate kept at first end marks₀ sum₀ j₀ marks sum j = end - j
 
+-- src/lib.rt:82:5
 loop-holds : tie.Need-loop-holds Inv-loop μ-loop
-loop-holds c = (add-zero _, search needs)
+loop-holds c = (add-zero _, (λ u. u), refl, c .before .before .before .pre .0)
 
+-- src/lib.rt:83:21
 pair-changes-requires : tie.Need-pair-changes-requires Inv-loop μ-loop
 pair-changes-requires c κs = search needs
 
+-- src/lib.rt:83:15
 add-sum : tie.Need-add-sum Inv-loop μ-loop
-add-sum c = omega (arith, sum-most _ _ _ _ _ _ _ _ (c .before .before .loop .inv .0) (c .pair-changes .ensures))
+add-sum c = omega (arith, sum-most _ _ _ _ _ _ _ _ (c .before .before .before .before .before .loop .inv .0) (c .before .before .pair-changes .ensures .0))
 
+-- src/lib.rt:84:9
 add-j : tie.Need-add-j Inv-loop μ-loop
 add-j c = search needs
 
+-- src/lib.rt:82:5
 loop-less : tie.Need-loop-less Inv-loop μ-loop
 loop-less c = search needs
 
+-- src/lib.rt:82:5
 loop-again : tie.Need-loop-again Inv-loop μ-loop
-loop-again c = (sum-more _ _ _ _ _ _ _ _ (c .before .before .loop .inv .0) (c .pair-changes .ensures), search needs)
+loop-again c = (sum-more _ _ _ _ _ _ _ _ (c .before .before .before .before .before .loop .inv .0) (c .before .before .pair-changes .ensures .0), (λ u. c .before .before .pair-changes .ensures .1 (c .before .before .before .before .before .loop .inv .1 u)), c .before .before .pair-changes .kept .1 .1 .1 .1 .0 ∙ c .before .before .before .before .before .loop .inv .2, omega (arith, c .before .before .before .before .loop-test .taken))
 
+-- src/lib.rt:68:1
+same-length : tie.Need-same-length Inv-loop μ-loop
+same-length c = search needs
+
+-- src/lib.rt:68:1
 returns : tie.Need-returns Inv-loop μ-loop
-returns c = let e : c .before .loop .j ≡ c .before .before .before .before .args .end = omega arith in rw e at (c .before .loop .inv .0)
+returns c = let e : c .before .loop .j ≡ c .before .before .before .before .before .args .end = omega (arith, c .before .loop .inv .3, c .loop-test .left) in (rw e at (c .before .loop .inv .0), rw e at (c .before .loop .inv .1))
 
 pub pairs-changes-spec : {M : Type 1} → statement M
 pairs-changes-spec =
@@ -46,4 +63,5 @@ pairs-changes-spec =
     add-j
     loop-less
     loop-again
+    same-length
     returns)

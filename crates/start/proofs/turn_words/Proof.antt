@@ -15,7 +15,7 @@ use Rattle.retained.proofs.half_word.Reads as half-word-reads
 use Rattle.start.proofs.turn_word.Reads as turn-word-reads
 
 abbrev Inv-loop : tie.InvT-loop
-Inv-loop counts candidate readers kept₀ first end low lowest₀ i₀ kept lowest i = 
+Inv-loop counts candidate readers kept₀ first end low lowest₀ i₀ kept lowest i =
     ((T : Tables) → Goes (listed counts readers T) candidate kept₀ low first (Low lowest) kept i) × (length kept ≡ length kept₀) × (i ≤ end)
 
 abbrev μ-loop : tie.MeasureT-loop
@@ -59,7 +59,7 @@ loop-less c = search needs
 
 -- src/lib.rt:132:5
 loop-again : tie.Need-loop-again Inv-loop μ-loop
-loop-again c = 
+loop-again c =
     (λ T. goes-on (listed (c .before .before .before .before .before .before .before .before .before .before .before .before .before .args .counts) (c .before .before .before .before .before .before .before .before .before .before .before .before .before .args .readers .now) T) (c .before .before .before .before .before .before .before .before .before .before .before .before .before .args .candidate .now) (c .before .before .before .before .before .before .before .before .before .before .before .before .before .args .kept .now) (c .before .before .before .before .before .before .before .before .before .before .before .before .before .args .low) (c .before .before .before .before .before .before .before .before .before .before .before .before .before .args .first) _ _ _ (c .before .before .before .before .before .before .before .before .before .loop .inv .0 T) _ _ _ _ (goes-word (listed (c .before .before .before .before .before .before .before .before .before .before .before .before .before .args .counts) (c .before .before .before .before .before .before .before .before .before .before .before .before .before .args .readers .now) T) (c .before .before .before .before .before .before .before .before .before .before .before .before .before .args .candidate .now) _ _ _ _ (omega (arith, c .before .before .before .before .before .before .before .before .loop-test .taken, c .before .before .before .before .before .before .before .before .before .before .before .before .before .pre .5)) (c .before .before .before .before .before .before .before .half-word .ensures) _ _ _ refl (c .before .before .before .before .before .turn-word .ensures T)) _ (c .before .m .given .1) refl, c .before .before .before .before .before .turn-word .kept .1 .1 .0 ∙ c .before .before .before .before .before .before .before .before .before .loop .inv .1, omega (arith, c .before .before .before .before .before .before .before .before .loop-test .taken))
 
 -- src/lib.rt:118:1
