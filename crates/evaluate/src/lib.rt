@@ -154,13 +154,11 @@ fn settle(checked: Checked, kept: &mut [u32], n: usize) -> Checked
     requires { ⌜ n ≤ length (now kept) ⌝ }
     ensures { λ r. ⌜ (r ≡ checked) × (now (kept .exit) ≡ settled n checked (now (kept .entry))) ⌝ }
 {
-    match checked {
-        Checked::Accepted(v, count) => Checked::Accepted(v, count),
-        Checked::Refused(r) => {
-            words::clear(&mut kept[..n]);
-            Checked::Refused(r)
-        }
-    }
+    let Checked::Refused(_) = checked else {
+        return checked;
+    };
+    words::clear(&mut kept[..n]);
+    checked
 }
 
 // Whether the candidate is a stable model, with the nodes gone over; `kept` is the kept evaluation (document 01's books). The same equation holds on words, plans and tables not made here: kept_laws/proofs/AnyWords says what it gives there.
