@@ -19,12 +19,16 @@ module _ (at : ℕ) (kept new : List ℕ) where
   upto-none marks i l e = absurd (omega arith)
 
   -- pairs that are the same
-  pub upto-same : (first end : ℕ) (marks : List ℕ) → SameFrom at kept new first end → Upto at kept new first marks → Upto at kept new end marks
+  pub upto-same : (first end : ℕ) (marks : List ℕ) → SameFrom at kept new first end → Upto at kept new (2 * first) marks → Upto at kept new (2 * end) marks
   upto-same first end marks s u i a e = ⊎-elim (λ b. u i b e) (λ b. s i b a) (below-or i (2 * first))
 
-  -- a pair that is marked
-  pub upto-marked : (j : ℕ) (marks : List ℕ) → j / 64 < length marks → Upto at kept new j marks → Upto at kept new (j + 1) (inserted 64 marks j)
-  upto-marked j marks l u i a e = ⊎-elim (λ p. absurd (true≢false (sym (there p) ∙ e))) (λ p. u i (omega arith) (sym (other p) ∙ e)) (equal-or j (i / 2))
+  -- a word that is the same
+  pub upto-word : (n : ℕ) (marks : List ℕ) → Same at kept new n → Upto at kept new n marks → Upto at kept new (n + 1) marks
+  upto-word n marks s u i a e = ⊎-elim (λ p. rw (← p) s) (λ p. u i (omega arith) e) (equal-or n i)
+
+  -- words of pair j, which is marked
+  pub upto-marked : (n m j : ℕ) (marks : List ℕ) → j / 64 < length marks → 2 * j ≤ n → m ≤ 2 * j + 2 → Upto at kept new n marks → Upto at kept new m (inserted 64 marks j)
+  upto-marked n m j marks l a b u i c e = ⊎-elim (λ p. absurd (true≢false (sym (there p) ∙ e))) (λ p. u i (omega arith) (sym (other p) ∙ e)) (equal-or j (i / 2))
     where
       there : j ≡ i / 2 → member 64 (inserted 64 marks j) (i / 2) ≡ true
       there p = member-inserted 64 marks j (i / 2) l ∙ rw (eq-eqb j (i / 2) p)

@@ -7,6 +7,7 @@ use mathlib.Core.List.{List}
 use lib.ListN.{getD}
 use Rattle.words.specs.Sets.{member}
 use Rattle.theory.specs.declared.Counts.{Counts}
+use Rattle.kept.specs.SetOf.{words32}
 use Rattle.kept_laws.specs.Given.{candidateAt}
 use Rattle.kept_laws.specs.Halves.{half}
 
@@ -18,10 +19,10 @@ Same at kept new i = getD kept (at + i) 0 ≡ half new i
 abbrev pub SameFrom : ℕ → List ℕ → List ℕ → ℕ → ℕ → Type 0
 SameFrom at kept new first end = (i : ℕ) → 2 * first ≤ i → i < 2 * end → Same at kept new i
 
--- each word of the first j pairs is the same unless its pair is in the set of marks
+-- each of the first n words is the same unless its pair is in the set of marks
 abbrev pub Upto : ℕ → List ℕ → List ℕ → ℕ → List ℕ → Type 0
-Upto at kept new j marks = (i : ℕ) → i < 2 * j → member 64 marks (i / 2) ≡ false → Same at kept new i
+Upto at kept new n marks = (i : ℕ) → i < n → member 64 marks (i / 2) ≡ false → Same at kept new i
 
--- so of all whole pairs
+-- so of all words
 abbrev pub Marked : Counts → List ℕ → List ℕ → List ℕ → Type 0
-Marked t kept new marks = Upto (candidateAt t) kept new (t .atoms / 64) marks
+Marked t kept new marks = Upto (candidateAt t) kept new (words32 (t .atoms)) marks

@@ -39,29 +39,31 @@ pub fn same_pair(candidate: &[u64], kept: &[u32], at: usize, j: usize) -> bool
     pair(kept, at + 2 * j) == candidate[j]
 }
 
-// At how many atoms word i differs.
-fn word_changes(candidate: &[u64], kept: &[u32], at: usize, i: usize) -> usize
-    requires { ⌜ (i < 2 * length (now candidate)) × (at + i < length (now kept)) ⌝ }
+// At how many atoms word i differs; its pair is marked if it does.
+fn word_changes(candidate: &[u64], kept: &[u32], at: usize, i: usize, marks: &mut [u64]) -> usize
+    requires { ⌜ (i < 2 * length (now candidate)) × (at + i < length (now kept)) × (i / 2 / 64 < length (now marks)) ⌝ }
     ensures { λ r. ⌜ r ≡ changed 32 (getD (now (kept .entry)) (at + i) 0) (half (now (candidate .entry)) i) ⌝ }
+    ensures { λ _. ⌜ (Upto at (now (kept .entry)) (now (candidate .entry)) i (now (marks .entry)) → Upto at (now (kept .entry)) (now (candidate .entry)) (i + 1) (now (marks .exit))) ⌝ }
 {
     let new = retained::half_word(candidate, i);
     if kept[at + i] == new {
         return 0;
     }
+    words::set64::insert(marks, i / 2);
     words::set32::changed(kept[at + i], new) as usize
 }
 
-// At how many atoms pair j differs; it is marked if it does.
+// The same of pair j.
 fn pair_changes(candidate: &[u64], kept: &[u32], at: usize, j: usize, marks: &mut [u64]) -> usize
     requires { ⌜ (j < length (now candidate)) × (at + 2 * j + 1 < length (now kept)) × (j / 64 < length (now marks)) ⌝ }
     ensures { λ r. ⌜ wordChanges at (now (kept .entry)) (now (candidate .entry)) (2 * j) + r ≡ wordChanges at (now (kept .entry)) (now (candidate .entry)) (2 * (j + 1)) ⌝ }
-    ensures { λ _. ⌜ (Upto at (now (kept .entry)) (now (candidate .entry)) j (now (marks .entry)) → Upto at (now (kept .entry)) (now (candidate .entry)) (j + 1) (now (marks .exit))) ⌝ }
+    ensures { λ _. ⌜ (Upto at (now (kept .entry)) (now (candidate .entry)) (2 * j) (now (marks .entry)) → Upto at (now (kept .entry)) (now (candidate .entry)) (2 * (j + 1)) (now (marks .exit))) ⌝ }
 {
     if same_pair(candidate, kept, at, j) {
         return 0;
     }
-    words::set64::insert(marks, j);
-    word_changes(candidate, kept, at, 2 * j) + word_changes(candidate, kept, at, 2 * j + 1)
+    let low = word_changes(candidate, kept, at, 2 * j, marks);
+    low + word_changes(candidate, kept, at, 2 * j + 1, marks)
 }
 
 // The same of pairs `first` to `end`.
@@ -75,7 +77,7 @@ fn pairs_changes(
 ) -> usize
     requires { ⌜ (first ≤ end) × (end ≤ 1024) × (end ≤ length (now candidate)) × (at + 2 * end ≤ length (now kept)) × (end ≤ 64 * length (now marks)) ⌝ }
     ensures { λ r. ⌜ wordChanges at (now (kept .entry)) (now (candidate .entry)) (2 * first) + r ≡ wordChanges at (now (kept .entry)) (now (candidate .entry)) (2 * end) ⌝ }
-    ensures { λ _. ⌜ (Upto at (now (kept .entry)) (now (candidate .entry)) first (now (marks .entry)) → Upto at (now (kept .entry)) (now (candidate .entry)) end (now (marks .exit))) ⌝ }
+    ensures { λ _. ⌜ (Upto at (now (kept .entry)) (now (candidate .entry)) (2 * first) (now (marks .entry)) → Upto at (now (kept .entry)) (now (candidate .entry)) (2 * end) (now (marks .exit))) ⌝ }
 {
     let mut sum = 0;
     let mut j = first;
@@ -123,7 +125,7 @@ fn block_changes(
 ) -> usize
     requires { ⌜ (first ≤ end) × (end ≤ first + 16) × (end ≤ 1024) × (end ≤ length (now candidate)) × (at + 2 * end ≤ length (now kept)) × (end ≤ 64 * length (now marks)) ⌝ }
     ensures { λ r. ⌜ wordChanges at (now (kept .entry)) (now (candidate .entry)) (2 * first) + r ≡ wordChanges at (now (kept .entry)) (now (candidate .entry)) (2 * end) ⌝ }
-    ensures { λ _. ⌜ (Upto at (now (kept .entry)) (now (candidate .entry)) first (now (marks .entry)) → Upto at (now (kept .entry)) (now (candidate .entry)) end (now (marks .exit))) ⌝ }
+    ensures { λ _. ⌜ (Upto at (now (kept .entry)) (now (candidate .entry)) (2 * first) (now (marks .entry)) → Upto at (now (kept .entry)) (now (candidate .entry)) (2 * end) (now (marks .exit))) ⌝ }
 {
     if same_pairs(candidate, kept, at, first, end) {
         return 0;
@@ -135,7 +137,7 @@ fn block_changes(
 fn all_changes(candidate: &[u64], kept: &[u32], at: usize, pairs: usize, marks: &mut [u64]) -> usize
     requires { ⌜ (pairs ≤ 1024) × (pairs ≤ length (now candidate)) × (at + 2 * pairs ≤ length (now kept)) × (pairs ≤ 64 * length (now marks)) ⌝ }
     ensures { λ r. ⌜ r ≡ wordChanges at (now (kept .entry)) (now (candidate .entry)) (2 * pairs) ⌝ }
-    ensures { λ _. ⌜ Upto at (now (kept .entry)) (now (candidate .entry)) pairs (now (marks .exit)) ⌝ }
+    ensures { λ _. ⌜ Upto at (now (kept .entry)) (now (candidate .entry)) (2 * pairs) (now (marks .exit)) ⌝ }
 {
     let mut sum = 0;
     let mut j = 0;
@@ -147,23 +149,31 @@ fn all_changes(candidate: &[u64], kept: &[u32], at: usize, pairs: usize, marks: 
     sum
 }
 
-// At how many atoms words `first` to `words` differ: those behind the whole pairs, two at most.
-fn rest_changes(candidate: &[u64], kept: &[u32], at: usize, first: usize, words: usize) -> usize
-    requires { ⌜ (first ≤ words) × (words ≤ 2048) × (words ≤ 2 * length (now candidate)) × (at + words ≤ length (now kept)) ⌝ }
+// At how many atoms words `first` to `words` differ, with marks: those behind the whole pairs, two at most.
+fn rest_changes(
+    candidate: &[u64],
+    kept: &[u32],
+    at: usize,
+    first: usize,
+    words: usize,
+    marks: &mut [u64],
+) -> usize
+    requires { ⌜ (first ≤ words) × (words ≤ 2048) × (words ≤ 2 * length (now candidate)) × (at + words ≤ length (now kept)) × (words ≤ 128 * length (now marks)) ⌝ }
     ensures { λ r. ⌜ wordChanges at (now (kept .entry)) (now (candidate .entry)) first + r ≡ wordChanges at (now (kept .entry)) (now (candidate .entry)) words ⌝ }
+    ensures { λ _. ⌜ (Upto at (now (kept .entry)) (now (candidate .entry)) first (now (marks .entry)) → Upto at (now (kept .entry)) (now (candidate .entry)) words (now (marks .exit))) ⌝ }
 {
     let mut sum = 0;
     let mut i = first;
     while i < words {
-        sum = sum + word_changes(candidate, kept, at, i);
+        sum = sum + word_changes(candidate, kept, at, i, marks);
         i += 1;
     }
     sum
 }
 
-// At how many atoms the candidates differ; the whole pairs that do are marked. `candidate` is the new one's listed words.
+// At how many atoms the candidates differ; the pairs that do are marked. `candidate` is the new one's listed words.
 pub fn difference(counts: Counts, candidate: &[u64], kept: &[u32], marks: &mut [u64]) -> usize
-    requires { ⌜ Limited counts × (length (now candidate) ≡ words64 (counts .atoms)) × (usedBy counts ≤ length (now kept)) × (counts .atoms / 64 ≤ 64 * length (now marks)) ⌝ }
+    requires { ⌜ Limited counts × (length (now candidate) ≡ words64 (counts .atoms)) × (usedBy counts ≤ length (now kept)) × (words64 (counts .atoms) ≤ 64 * length (now marks)) ⌝ }
     ensures { λ r. ⌜ ((T : Tables) → r ≡ changes (member 64 (now (candidate .entry))) (ofWords (sized counts T) (now (kept .entry)))) ⌝ }
     ensures { λ _. ⌜ Marked counts (now (kept .entry)) (now (candidate .entry)) (now (marks .exit)) ⌝ }
 {
@@ -171,5 +181,6 @@ pub fn difference(counts: Counts, candidate: &[u64], kept: &[u32], marks: &mut [
     let at = 16 + n + (n + 31) / 32 + counts.atoms;
     let pairs = counts.atoms / 64;
     let whole = all_changes(candidate, kept, at, pairs, marks);
-    whole + rest_changes(candidate, kept, at, 2 * pairs, (counts.atoms + 31) / 32)
+    let words = (counts.atoms + 31) / 32;
+    whole + rest_changes(candidate, kept, at, 2 * pairs, words, marks)
 }

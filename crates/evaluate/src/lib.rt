@@ -30,7 +30,7 @@ pub struct Plan {
 
 // Whether a check of this stamp is held and at most max(64, atoms / 8) atoms changed; then the pairs of words that differ are marked.
 fn is_kept(counts: Counts, candidate: &[u64], kept: &[u32], marks: &mut [u64]) -> bool
-    requires { ⌜ Limited counts × (length (now candidate) ≡ words64 (counts .atoms)) × (usedBy counts ≤ length (now kept)) × (counts .atoms / 64 ≤ 64 * length (now marks)) ⌝ }
+    requires { ⌜ Limited counts × (length (now candidate) ≡ words64 (counts .atoms)) × (usedBy counts ≤ length (now kept)) × (words64 (counts .atoms) ≤ 64 * length (now marks)) ⌝ }
     ensures { λ r. ⌜ ((T : Tables) → r ≡ isKept 64 8 (sized counts T) (member 64 (now (candidate .entry))) (ofWords (sized counts T) (now (kept .entry)))) ⌝ }
     ensures { λ r. ⌜ (r ≡ true → Marked counts (now (kept .entry)) (now (candidate .entry)) (now (marks .exit))) ⌝ }
 {
@@ -85,7 +85,7 @@ fn evaluate_with(
     kept: &mut [u32],
     marks: &mut [u64],
 ) -> Checked
-    requires { ⌜ Lent counts (length (now candidate)) (length (now nodes)) (length (now operands)) (length (now roots)) (length (now producers)) (length (now kept)) × (readerWords counts ≤ length (now readers)) × Within (counts .atoms) (member 64 (now candidate)) × (made ≤ counts .roots) × (counts .atoms / 64 ≤ 64 * length (now marks)) × (length (now marks) ≤ 16) ⌝ }
+    requires { ⌜ Lent counts (length (now candidate)) (length (now nodes)) (length (now operands)) (length (now roots)) (length (now producers)) (length (now kept)) × (readerWords counts ≤ length (now readers)) × Within (counts .atoms) (member 64 (now candidate)) × (made ≤ counts .roots) × (words64 (counts .atoms) ≤ 64 * length (now marks)) × (length (now marks) ≤ 16) ⌝ }
     ensures { λ r. ⌜ ((T : Tables) → Results (lent counts made (now (nodes .entry)) (now (operands .entry)) (now (roots .entry)) (now (producers .entry)) (now (readers .entry)) T) (now (kept .entry)) (result 64 8 (lent counts made (now (nodes .entry)) (now (operands .entry)) (now (roots .entry)) (now (producers .entry)) (now (readers .entry)) T) (member 64 (now (candidate .entry))) (ofWords (lent counts made (now (nodes .entry)) (now (operands .entry)) (now (roots .entry)) (now (producers .entry)) (now (readers .entry)) T) (now (kept .entry)))) r (now (kept .exit))) ⌝ }
 {
     if is_kept(counts, candidate, kept, marks) {
@@ -134,7 +134,7 @@ fn evaluate(
         return Checked::Refused(Refusal::BadEntry(0));
     }
     let mut marks = [0u64; 16];
-    let size = (counts.atoms / 64 + 63) / 64;
+    let size = (candidate.len() + 63) / 64;
     evaluate_with(
         counts,
         made,

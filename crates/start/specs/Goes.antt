@@ -76,44 +76,29 @@ module _ (T : Tables) (new before : List ℕ) (low i : ℕ) where
 -- ---- a start of its own
 
 module _ (T : Tables) (new ws : List ℕ) where
-  pub continued : (mid : List ℕ) (less i j : ℕ) → i ≡ j → Starting T new ws mid less i → Continued T new ws (Low less) mid j
-  unfolding Continued
-  continued mid less i j p s = rw p at s
-
   pub continued-low : (r : Entered) (mid : List ℕ) (i less : ℕ) → r ≡ Low less → Continued T new ws r mid i → Starting T new ws mid less i
   unfolding Continued
   continued-low r mid i less p c = rw p at c
-
-  pub continued-stray : (r : Entered) (mid : List ℕ) (i j : ℕ) → r ≡ Stray → Continued T new ws r mid i → Continued T new ws Stray mid j
-  unfolding Continued
-  continued-stray r mid i j p c = rw p at c
 
   pub continued-end : (r : Entered) (mid : List ℕ) (i : ℕ) → r ≡ Stray → Continued T new ws r mid i
       → Enters T ws (walkStart T (member 64 new) (atomCount T) (ofWords T ws)) (lowestEntered T (member 64 new) (ofWords T ws)) Stray mid
   unfolding Continued
   continued-end r mid i p c = rw p at c
 
-  module _ (room : used T ≤ length ws) (wn : Within (atomCount T) (member 64 new)) (wk : Within (atomCount T) (present (ofWords T ws))) where
-    pub continued-done : (r : Entered) (after : List ℕ) → Continued T new ws r after (words32 (atomCount T))
-        → Enters T ws (walkStart T (member 64 new) (atomCount T) (ofWords T ws)) (lowestEntered T (member 64 new) (ofWords T ws)) r after
-    unfolding Continued
-    continued-done (Low m) after s = starting-done T new ws room wn wk after m (words32 (atomCount T)) s refl
-    continued-done Stray after e = e
+  module _ (room : used T ≤ length ws) (wn : Within (atomCount T) (member 64 new)) (wk : Within (atomCount T) (present (ofWords T ws))) (mid : List ℕ) (less : ℕ) where
+    pub goes-from : (i : ℕ) (r : Entered) (after : List ℕ) (j : ℕ) → Goes T new mid less i r after j → Starting T new ws mid less i → Continued T new ws r after j
+    unfolding Goes
+    goes-from i r after j g s = g ws room wn wk s
 
-    module _ (mid : List ℕ) (less : ℕ) where
-      pub goes-from : (i : ℕ) (r : Entered) (after : List ℕ) (j : ℕ) → Goes T new mid less i r after j → Starting T new ws mid less i → Continued T new ws r after j
-      unfolding Goes
-      goes-from i r after j g s = g ws room wn wk s
-
-      -- pairs that are not marked, from pair p to the next mark or the last whole pair
-      pub starting-marked : (marks : List ℕ) (p j : ℕ) → Starting T new ws mid less (2 * p) → Upto (candidateStart T) ws new (atomCount T / 64) marks
-          → j ≡ next 64 marks p → p ≤ atomCount T / 64 → Starting T new ws mid less (2 * min j (atomCount T / 64))
-      starting-marked marks p j s marked q l =
-          let from : p ≤ j = rw q (next-is 64 marks p .from) in
-          let upto : 2 * min j (atomCount T / 64) ≡ 2 * p + 2 * (min j (atomCount T / 64) - p) = omega arith in
-          rw upto (starting-skip T new ws room wn wk mid less (2 * p) (2 * (min j (atomCount T / 64) - p)) s (omega arith) (λ a x y.
-          same-word T new ws room wn wk ws (nodeCount T) 0 (starting-first T new ws room wn wk) (a / 32) (omega arith) (omega arith)
-          (marked (a / 32) (omega arith) (next-is 64 marks p .before (a / 32 / 2) (omega arith) (rw (← q) (omega arith)))) a (omega arith) (omega arith)))
+    -- pairs that are not marked, from pair p to the next mark or the last word
+    pub starting-marked : (marks : List ℕ) (p i j : ℕ) → i ≡ min (2 * p) (words32 (atomCount T)) → Starting T new ws mid less i
+        → Upto (candidateStart T) ws new (words32 (atomCount T)) marks → j ≡ next 64 marks p → Starting T new ws mid less (min (2 * j) (words32 (atomCount T)))
+    starting-marked marks p i j o s marked q =
+        let from : p ≤ j = rw q (next-is 64 marks p .from) in
+        let upto : min (2 * j) (words32 (atomCount T)) ≡ i + (min (2 * j) (words32 (atomCount T)) - i) = omega arith in
+        rw upto (starting-skip T new ws room wn wk mid less i (min (2 * j) (words32 (atomCount T)) - i) s (omega arith) (λ a x y.
+        same-word T new ws room wn wk ws (nodeCount T) 0 (starting-first T new ws room wn wk) (a / 32) (omega arith) (omega arith)
+        (marked (a / 32) (omega arith) (next-is 64 marks p .before (a / 32 / 2) (omega arith) (rw (← q) (omega arith)))) a (omega arith) (omega arith)))
 
 -- the places at which word j differs are atoms, if the start has come to it
 pub begun-within : (T : Tables) (new before : List ℕ) (low i : ℕ) → Begun T new before low i → (mid : List ℕ) (less j : ℕ) → Goes T new before low i (Low less) mid j

@@ -21,7 +21,6 @@ ghost use Rattle.kept_laws.specs.Given.{candidateAt, usedBy, sized, listed};
 ghost use Rattle.kept_laws.specs.StartChanged.{allTurned};
 ghost use Rattle.difference.specs.Marks.{Marked};
 ghost use Rattle.start.specs.Enters.{Enters};
-ghost use Rattle.start.specs.StartLaws.{Continued};
 ghost use Rattle.start.specs.Goes.{Begun, Goes};
 use theory::Counts;
 
@@ -144,23 +143,24 @@ fn turn_words(
     Entered::Low(lowest)
 }
 
-// The same of the marked pairs: those of whole pairs that are not marked stand as the new candidate has them.
-fn turn_marked(
+// The new candidate, and the atom nodes of changed atoms on the worklist; `candidate` is its listed words, `marks` the pairs of u32 words that may differ.
+pub fn start(
     counts: Counts,
     candidate: &[u64],
     readers: &[u64],
     kept: &mut [u32],
     marks: &[u64],
 ) -> Entered
-    requires { ⌜ Limited counts × (length (now candidate) ≡ words64 (counts .atoms)) × (readerWords counts ≤ length (now readers)) × (usedBy counts ≤ length (now kept)) × Marked counts (now kept) (now candidate) (now marks) × (counts .atoms / 64 ≤ 64 * length (now marks)) × (length (now marks) ≤ 16) ⌝ }
+    requires { ⌜ Limited counts × (length (now candidate) ≡ words64 (counts .atoms)) × (readerWords counts ≤ length (now readers)) × (usedBy counts ≤ length (now kept)) × Marked counts (now kept) (now candidate) (now marks) × (words64 (counts .atoms) ≤ 64 * length (now marks)) × (length (now marks) ≤ 16) ⌝ }
     requires { ⌜ Within (counts .atoms) (member 64 (now candidate)) × ((T : Tables) → Within (counts .atoms) (present (ofWords (sized counts T) (now kept)))) ⌝ }
-    ensures { λ r. ⌜ ((T : Tables) → Continued (listed counts (now (readers .entry)) T) (now (candidate .entry)) (now (kept .entry)) r (now (kept .exit)) (2 * (counts .atoms / 64))) ⌝ }
+    ensures { λ r. ⌜ ((T : Tables) → Enters (listed counts (now (readers .entry)) T) (now (kept .entry)) (walkStart (listed counts (now (readers .entry)) T) (member 64 (now (candidate .entry))) (counts .atoms) (ofWords (listed counts (now (readers .entry)) T) (now (kept .entry)))) (lowestEntered (listed counts (now (readers .entry)) T) (member 64 (now (candidate .entry))) (ofWords (listed counts (now (readers .entry)) T) (now (kept .entry)))) r (now (kept .exit))) ⌝ }
 {
-    let pairs = counts.atoms / 64;
+    let words = (counts.atoms + 31) / 32;
     let mut lowest = counts.nodes;
     let mut j = words::set64::next(marks, 0);
-    while j < pairs {
-        match turn_words(counts, candidate, readers, kept, 2 * j, 2 * j + 2, lowest) {
+    while j < candidate.len() {
+        let end = difference::smaller(2 * j + 2, words);
+        match turn_words(counts, candidate, readers, kept, 2 * j, end, lowest) {
             Entered::Low(m) => {
                 lowest = m;
             }
@@ -171,26 +171,4 @@ fn turn_marked(
         j = words::set64::next(marks, j + 1);
     }
     Entered::Low(lowest)
-}
-
-// The new candidate, and the atom nodes of changed atoms on the worklist; `candidate` is its listed words, `marks` the pairs of its words that may differ.
-pub fn start(
-    counts: Counts,
-    candidate: &[u64],
-    readers: &[u64],
-    kept: &mut [u32],
-    marks: &[u64],
-) -> Entered
-    requires { ⌜ Limited counts × (length (now candidate) ≡ words64 (counts .atoms)) × (readerWords counts ≤ length (now readers)) × (usedBy counts ≤ length (now kept)) × Marked counts (now kept) (now candidate) (now marks) × (counts .atoms / 64 ≤ 64 * length (now marks)) × (length (now marks) ≤ 16) ⌝ }
-    requires { ⌜ Within (counts .atoms) (member 64 (now candidate)) × ((T : Tables) → Within (counts .atoms) (present (ofWords (sized counts T) (now kept)))) ⌝ }
-    ensures { λ r. ⌜ ((T : Tables) → Enters (listed counts (now (readers .entry)) T) (now (kept .entry)) (walkStart (listed counts (now (readers .entry)) T) (member 64 (now (candidate .entry))) (counts .atoms) (ofWords (listed counts (now (readers .entry)) T) (now (kept .entry)))) (lowestEntered (listed counts (now (readers .entry)) T) (member 64 (now (candidate .entry))) (ofWords (listed counts (now (readers .entry)) T) (now (kept .entry)))) r (now (kept .exit))) ⌝ }
-{
-    match turn_marked(counts, candidate, readers, kept, marks) {
-        Entered::Low(low) => {
-            let first = 2 * (counts.atoms / 64);
-            let end = (counts.atoms + 31) / 32;
-            turn_words(counts, candidate, readers, kept, first, end, low)
-        }
-        Entered::Stray => Entered::Stray,
-    }
 }

@@ -100,7 +100,7 @@ pub fn update(
     kept: &mut [u32],
     marks: &[u64],
 ) -> Checked
-    requires { ⌜ Lent counts made (length (now nodes)) (length (now operands)) (length (now producers)) (length (now readers)) (length (now kept)) × (counts .roots ≤ length (now roots)) × (length (now candidate) ≡ words64 (counts .atoms)) × Within (counts .atoms) (member 64 (now candidate)) × Marked counts (now kept) (now candidate) (now marks) × (counts .atoms / 64 ≤ 64 * length (now marks)) × (length (now marks) ≤ 16) ⌝ }
+    requires { ⌜ Lent counts made (length (now nodes)) (length (now operands)) (length (now producers)) (length (now readers)) (length (now kept)) × (counts .roots ≤ length (now roots)) × (length (now candidate) ≡ words64 (counts .atoms)) × Within (counts .atoms) (member 64 (now candidate)) × Marked counts (now kept) (now candidate) (now marks) × (words64 (counts .atoms) ≤ 64 * length (now marks)) × (length (now marks) ≤ 16) ⌝ }
     ensures { λ r. ⌜ ((T : Tables) → Results (lent counts made (now (nodes .entry)) (now (operands .entry)) (now (roots .entry)) (now (producers .entry)) (now (readers .entry)) T) (now (kept .entry)) (keptResult (lent counts made (now (nodes .entry)) (now (operands .entry)) (now (roots .entry)) (now (producers .entry)) (now (readers .entry)) T) (keptWalk (lent counts made (now (nodes .entry)) (now (operands .entry)) (now (roots .entry)) (now (producers .entry)) (now (readers .entry)) T) (member 64 (now (candidate .entry))) (ofWords (lent counts made (now (nodes .entry)) (now (operands .entry)) (now (roots .entry)) (now (producers .entry)) (now (readers .entry)) T) (now (kept .entry))))) r (now (kept .exit))) ⌝ }
 {
     if stray_member(counts, kept) {

@@ -15,7 +15,7 @@ use Rattle.difference.proofs.smaller.Reads as smaller-reads
 
 abbrev Inv-loop : tie.InvT-loop
 Inv-loop candidate kept at pairs marks₀ sum₀ j₀ marks sum j =
-    (sum ≡ wordChanges at kept candidate (2 * j)) × Upto at kept candidate j marks × (length marks ≡ length marks₀) × (j ≤ pairs)
+    (sum ≡ wordChanges at kept candidate (2 * j)) × Upto at kept candidate (2 * j) marks × (length marks ≡ length marks₀) × (j ≤ pairs)
 
 abbrev μ-loop : tie.MeasureT-loop
 μ-loop candidate kept at pairs marks₀ sum₀ j₀ marks sum j = pairs - j

@@ -14,7 +14,7 @@ use Rattle.difference.proofs.pair_changes.Reads as pair-changes-reads
 
 abbrev Inv-loop : tie.InvT-loop
 Inv-loop candidate kept at first end marks₀ sum₀ j₀ marks sum j =
-    (wordChanges at kept candidate (2 * first) + sum ≡ wordChanges at kept candidate (2 * j)) × (Upto at kept candidate first marks₀ → Upto at kept candidate j marks) × (length marks ≡ length marks₀) × (j ≤ end)
+    (wordChanges at kept candidate (2 * first) + sum ≡ wordChanges at kept candidate (2 * j)) × (Upto at kept candidate (2 * first) marks₀ → Upto at kept candidate (2 * j) marks) × (length marks ≡ length marks₀) × (j ≤ end)
 
 abbrev μ-loop : tie.MeasureT-loop
 μ-loop candidate kept at first end marks₀ sum₀ j₀ marks sum j = end - j

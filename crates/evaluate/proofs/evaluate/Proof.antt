@@ -1,7 +1,7 @@
 use Prim.Native.Nat.{ℕ, _+_, _/_}
 use native.Mathlib.Omega.{arith}
 use mathlib.Core.Path.{sym}
-use lib.ListN.{replicate}
+use lib.ListN.{length, replicate}
 use lib.Seq.{length-take-le}
 use Rattle.words.specs.Sets.{member}
 use Rattle.update.specs.Results.{lent}
@@ -27,11 +27,11 @@ array-borrow-prefix-marks c = search needs
 
 -- src/lib.rt:148:9
 slice-aggregate-evaluate-with : tie.Need-slice-aggregate-evaluate-with
-slice-aggregate-evaluate-with c = sym (length-take-le {A = ℕ} ((c .before .before .before .before .before .before .before .before .before .before .before .before .args .counts .atoms / 64 + 63) / 64) (replicate 16 0) (omega (arith, c .before .before .before .before .before .before .before .before .before .before .before .before .pre .0 .limited .atoms)))
+slice-aggregate-evaluate-with c = sym (length-take-le {A = ℕ} ((length (c .before .before .before .before .before .before .before .before .before .before .before .args .candidate .now) + 63) / 64) (replicate 16 0) (omega (arith, c .before .before .before .before .before .before .before .before .before .before .before .pre .0 .limited .atoms, c .before .before .before .before .before .before .before .before .before .before .before .pre .0 .candidate-long)))
 
 -- src/lib.rt:138:5
 evaluate-with-requires : tie.Need-evaluate-with-requires
-evaluate-with-requires c κs = (c .before .before .before .before .before .before .before .before .before .before .before .before .pre .0, c .before .before .before .before .before .before .before .before .before .before .before .before .pre .1, c .before .before .before .before .before .before .before .before .before .before .before .before .pre .2, omega (arith, c .before .before .before .if1 .left), omega (arith, c .before .before .before .before .before .before .before .before .before .before .before .before .pre .0 .limited .atoms, length-take-le {A = ℕ} ((c .before .before .before .before .before .before .before .before .before .before .before .before .args .counts .atoms / 64 + 63) / 64) (replicate 16 0) (omega (arith, c .before .before .before .before .before .before .before .before .before .before .before .before .pre .0 .limited .atoms))), omega (arith, c .before .before .before .before .before .before .before .before .before .before .before .before .pre .0 .limited .atoms, length-take-le {A = ℕ} ((c .before .before .before .before .before .before .before .before .before .before .before .before .args .counts .atoms / 64 + 63) / 64) (replicate 16 0) (omega (arith, c .before .before .before .before .before .before .before .before .before .before .before .before .pre .0 .limited .atoms))))
+evaluate-with-requires c κs = (c .before .before .before .before .before .before .before .before .before .before .before .pre .0, c .before .before .before .before .before .before .before .before .before .before .before .pre .1, c .before .before .before .before .before .before .before .before .before .before .before .pre .2, omega (arith, c .before .before .if1 .left), omega (arith, c .before .before .before .before .before .before .before .before .before .before .before .pre .0 .candidate-long, length-take-le {A = ℕ} ((length (c .before .before .before .before .before .before .before .before .before .before .before .args .candidate .now) + 63) / 64) (replicate 16 0) (omega (arith, c .before .before .before .before .before .before .before .before .before .before .before .pre .0 .limited .atoms, c .before .before .before .before .before .before .before .before .before .before .before .pre .0 .candidate-long))), omega (arith, c .before .before .before .before .before .before .before .before .before .before .before .pre .0 .limited .atoms, c .before .before .before .before .before .before .before .before .before .before .before .pre .0 .candidate-long, length-take-le {A = ℕ} ((length (c .before .before .before .before .before .before .before .before .before .before .before .args .candidate .now) + 63) / 64) (replicate 16 0) (omega (arith, c .before .before .before .before .before .before .before .before .before .before .before .pre .0 .limited .atoms, c .before .before .before .before .before .before .before .before .before .before .before .pre .0 .candidate-long))))
 
 -- src/lib.rt:119:1
 same-length : tie.Need-same-length
