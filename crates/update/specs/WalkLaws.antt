@@ -1,18 +1,24 @@
 -- The walk as a loop of steps, and what comes before it.
 -- Assumes nothing.
-use Prim.Native.Nat.{ℕ, suc, _<_, _≤_, _+_, _-_, _*_}
+use Prim.Native.Nat.{ℕ, suc, _<_, _≤_, _+_, _-_, _*_, _/_, _%_, _^_}
 use native.Mathlib.Omega.{arith}
 use mathlib.Core.Path.{_≡_, refl, ap, ap₂, sym, _∙_}
-use mathlib.Core.Bool.{Bool, true, false, cond}
+use mathlib.Core.Logic.{⊎-elim}
+use mathlib.Core.Bool.{Bool, true, false, not, cond}
 use mathlib.Core.List.{List}
 use mathlib.Core.Option.{Option, some, none}
-use lib.Dec.{ltb}
-use lib.ListN.{length, take, drop}
-use borrow.Author.Tests.{ltb-false}
+use lib.Count.{trailingZeros}
+use lib.Dec.{eqb, ltb}
+use lib.ListN.{length, getD}
+use lib.Pow.{shr-lt}
+use borrow.Author.Tests.{ne-eqb, lt-ltb, le-ltb, ltb-false}
+use Rattle.base.specs.Tests.{equal-or}
 use Rattle.formula.specs.Satisfaction.{Interpretation}
 use Rattle.formula.specs.Passes.{Within}
 use Rattle.theory.specs.declared.Refusal.the-variants.{BadEntry}
+use Rattle.words.specs.BitLaws.{trailing-below}
 use Rattle.words.specs.Next.{next}
+use Rattle.words.specs.NextLaws.{next-end, next-rest, next-here}
 use Rattle.kept.specs.SetOf.{words32}
 use Rattle.kept.specs.Tables.{Tables, atomCount, nodeCount}
 use Rattle.kept.specs.Evaluation.{Evaluation, present}
@@ -26,7 +32,7 @@ use Rattle.kept.specs.LayoutLaws.{Fits, fits-of}
 use Rattle.kept_laws.specs.FitsLaws.{step-fits, start-fits}
 use Rattle.kept_laws.specs.WalkEnds.{step-next}
 use Rattle.kept_laws.specs.Turns.{resumed, resumed-none, walk-more, walk-done, walk-stop}
-use Rattle.kept_laws.specs.Written.{written-same, of-written, length-written, written-again, part-candidate}
+use Rattle.kept_laws.specs.Written.{written-same, of-written, length-written, written-again, part-candidate, get-candidate}
 use Rattle.kept_laws.specs.Wrote.{Beside, beside-same, beside-then, beside-written}
 use Rattle.step.specs.Steps.{Steps}
 use Rattle.step.specs.declared.Taking.{Taking}
@@ -126,9 +132,35 @@ module _ (T : Tables) (J : Interpretation) (ws : List ℕ) (long : used T ≤ le
   abbrev result : Result
   result = keptResult T (keptWalk T J e)
 
-  -- as the code finds it, in that part of the words
-  pub stray-in : (r : ℕ) → r ≡ next 32 (take (missingStart T - candidateStart T) (drop (candidateStart T) ws)) (atomCount T) → ltb r (32 * words32 (atomCount T)) ≡ stray
-  stray-in r h = ap₂ (λ x y. ltb x (32 * y)) (h ∙ ap (λ l. next 32 l (atomCount T)) (part-candidate T ws long)) (sym (fits-of T ws long .candidate))
+  -- as the code finds it: every place of the words is an atom's
+  pub stray-none : atomCount T % 32 ≡ 0 → false ≡ stray
+  stray-none z =
+      let size : length (e .candidate) ≡ words32 (atomCount T) = fits-of T ws long .candidate in
+      sym (rw (next-end 32 (e .candidate) (atomCount T) (omega arith)) (le-ltb (atomCount T) (32 * length (e .candidate)) (omega arith)))
+
+  -- or the last word has others
+  pub stray-last : (x : ℕ) → (atomCount T % 32 ≡ 0 → ⊥) → x ≡ getD ws (candidateStart T + atomCount T / 32) 0 → x < 2 ^ 32 → not (eqb (x / 2 ^ (atomCount T % 32)) 0) ≡ stray
+  stray-last x ne q small = ⊎-elim empty others (equal-or (x / 2 ^ (atomCount T % 32)) 0)
+    where
+      size : length (e .candidate) ≡ words32 (atomCount T)
+      size = fits-of T ws long .candidate
+
+      word : getD (e .candidate) (atomCount T / 32) 0 ≡ x
+      word = sym (get-candidate T ws long (atomCount T / 32) (omega arith)) ∙ sym q
+
+      empty : x / 2 ^ (atomCount T % 32) ≡ 0 → not (eqb (x / 2 ^ (atomCount T % 32)) 0) ≡ stray
+      empty z =
+          let to : next 32 (e .candidate) (atomCount T) ≡ 32 * (atomCount T / 32 + 1) = next-rest 32 (e .candidate) (atomCount T) (omega arith) (omega (arith, size)) (rw word z)
+          ∙ next-end 32 (e .candidate) (32 * (atomCount T / 32 + 1)) (omega (arith, size)) in
+          rw (z, to, le-ltb (32 * (atomCount T / 32 + 1)) (32 * length (e .candidate)) (omega (arith, size)))
+
+      others : (x / 2 ^ (atomCount T % 32) ≡ 0 → ⊥) → not (eqb (x / 2 ^ (atomCount T % 32)) 0) ≡ stray
+      others z =
+          let fill : 32 - atomCount T % 32 + atomCount T % 32 ≡ 32 = omega arith in
+          let t : trailingZeros 32 (x / 2 ^ (atomCount T % 32)) < 32 - atomCount T % 32 = trailing-below 32 (32 - atomCount T % 32) (x / 2 ^ (atomCount T % 32)) (omega arith)
+          (shr-lt (32 - atomCount T % 32) (atomCount T % 32) (rw fill small)) (omega arith) in
+          let to : next 32 (e .candidate) (atomCount T) ≡ atomCount T + trailingZeros 32 (x / 2 ^ (atomCount T % 32)) = rw word at (next-here 32 (e .candidate) (atomCount T) (omega arith) (omega (arith, size)) (rw word small) (rw word z)) in
+          rw (ne-eqb (x / 2 ^ (atomCount T % 32)) 0 z, to, lt-ltb (atomCount T + trailingZeros 32 (x / 2 ^ (atomCount T % 32))) (32 * length (e .candidate)) (omega (arith, size)))
 
   -- without it, the kept candidate has atoms alone
   pub not-stray : stray ≡ false → Within (atomCount T) (present e)

@@ -82,9 +82,11 @@ fn stray_member(counts: Counts, kept: &[u32]) -> bool
 {
     let n = counts.nodes;
     let a = counts.atoms;
-    let size = (a + 31) / 32;
-    let at = 16 + n + (n + 31) / 32 + a;
-    words::set32::next(&kept[at..at + size], a) < 32 * size
+    if a % 32 == 0 {
+        return false;
+    }
+    let at = 16 + n + (n + 31) / 32 + a + a / 32;
+    kept[at] >> (a % 32) != 0
 }
 
 // The kept evaluation brought to the new candidate, whose listed words `candidate` is; `marks` the pairs of its words that may differ.

@@ -1,79 +1,70 @@
+use Prim.Native.Nat.{_+_, _/_}
+use mathlib.Core.Path.{refl}
 use mathlib.Core.Bool.{false}
-use Rattle.kept_laws.specs.Given.{sized}
-use Rattle.update.specs.WalkLaws.{stray-in}
+use Rattle.kept_laws.specs.Given.{candidateAt, sized}
+use Rattle.update.specs.WalkLaws.{stray-none, stray-last}
 use borrow.Author.Needs.{needs}
 use Rattle.update.proofs.stray_member.Statement.{statement}
 use Rattle.update.proofs.stray_member.Tie as tie
 use Rattle.update.proofs.stray_member.Reads as reads
 use Rattle.update.proofs.stray_member.Lts as lts
-use Rattle.words.proofs.set32.next.Reads as next-reads
 
--- src/lib.rt:85:17
-add-size : tie.Need-add-size
-add-size c = search needs
+-- src/lib.rt:86:9
+returns : tie.Need-returns
+returns c = λ T. stray-none (sized (c .before .args .counts) T) (λ a. false) (c .before .args .kept .now) (c .before .pre .1) (c .if1 .taken)
 
--- src/lib.rt:86:14
+-- src/lib.rt:88:14
 add-at : tie.Need-add-at
 add-at c = search needs
 
--- src/lib.rt:86:24
+-- src/lib.rt:88:24
 add-at-2 : tie.Need-add-at-2
 add-at-2 c = search needs
 
--- src/lib.rt:86:14
+-- src/lib.rt:88:14
 add-at-3 : tie.Need-add-at-3
 add-at-3 c = search needs
 
--- src/lib.rt:86:14
+-- src/lib.rt:88:14
 add-at-4 : tie.Need-add-at-4
 add-at-4 c = search needs
 
--- src/lib.rt:87:34
-add-next : tie.Need-add-next
-add-next c = search needs
+-- src/lib.rt:88:14
+add-at-5 : tie.Need-add-at-5
+add-at-5 c = search needs
 
--- src/lib.rt:87:24
-mul-next : tie.Need-mul-next
-mul-next c = search needs
-
--- src/lib.rt:87:24
-sub-next : tie.Need-sub-next
-sub-next c = search needs
-
--- src/lib.rt:87:24
-part-next-start : tie.Need-part-next-start
-part-next-start c = search needs
-
--- src/lib.rt:87:24
-part-next-end : tie.Need-part-next-end
-part-next-end c = search needs
-
--- src/lib.rt:87:5
-next-requires : tie.Need-next-requires
-next-requires c κs = search needs
-
--- src/lib.rt:87:51
+-- src/lib.rt:89:5
 mul-result : tie.Need-mul-result
 mul-result c = search needs
 
+-- src/lib.rt:89:5
+shared-slice-read-result : tie.Need-shared-slice-read-result
+shared-slice-read-result c = search needs
+
+-- src/lib.rt:89:18
+cast-result : tie.Need-cast-result
+cast-result c = search needs
+
+-- src/lib.rt:89:5
+shr-result : tie.Need-shr-result
+shr-result c = search needs
+
 -- src/lib.rt:79:1
-returns : tie.Need-returns
-returns c = λ T. stray-in (sized (c .before .before .before .args .counts) T) (λ a. false) (c .before .before .before .args .kept .now) (c .before .before .before .pre .1) _ (c .next .ensures)
+returns-2 : tie.Need-returns-2
+returns-2 c = λ T. stray-last (sized (c .before .before .args .counts) T) (λ a. false) (c .before .before .args .kept .now) (c .before .before .pre .1) _ (c .before .if1 .left) refl (c .shared-slice-known .given (candidateAt (c .before .before .args .counts) + c .before .before .args .counts .atoms / 32) .fits)
 
 pub stray-member-spec : {M : Type 1} → statement M
 stray-member-spec =
     tie.close
     (tie.spec
-    add-size
+    returns
     add-at
     add-at-2
     add-at-3
     add-at-4
-    add-next
-    mul-next
-    sub-next
-    part-next-start
-    part-next-end
-    next-requires
+    add-at-5
     mul-result
-    returns)
+    shared-slice-read-result
+    cast-result
+    shr-result
+    returns-2)
