@@ -1,7 +1,7 @@
 // The public check of a candidate (`check` and `evaluate` of tight/evaluate.rs): kept where a check of this stamp is held and few atoms changed, else fresh.
 ghost use mathlib.Core.Path.{_≡_};
 ghost use mathlib.Core.Bool.{true};
-ghost use Prim.Native.Nat.{_+_, _*_, _/_, _<_, _≤_, max};
+ghost use Prim.Native.Nat.{_+_, _*_, _/_, _≤_, max};
 ghost use lib.ListN.{length};
 ghost use Rattle.formula.specs.Passes.{Within};
 ghost use Rattle.words.specs.Sets.{member};

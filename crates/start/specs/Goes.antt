@@ -1,15 +1,12 @@
 -- A call over some words of the candidate, between the words before them and those behind them.
 -- Assumes nothing.
-use Prim.Native.Nat.{ℕ, _<_, _≤_, _+_, _-_, _*_, _/_, _%_, _^_, min}
+use Prim.Native.Nat.{ℕ, _<_, _≤_, _+_, _-_, _*_, _/_, min}
 use native.Mathlib.Omega.{arith}
-use mathlib.Core.Path.{_≡_, refl, ap, sym, _∙_}
-use mathlib.Core.Logic.{⊎-elim}
+use mathlib.Core.Path.{_≡_, refl}
 use mathlib.Core.Bool.{true, false}
 use mathlib.Core.List.{List}
 use lib.Bits.{bitXor}
 use lib.ListN.{length, getD}
-use borrow.Author.Tests.{ne-eqb}
-use Rattle.base.specs.Tests.{below-or}
 use Rattle.formula.specs.Satisfaction.{Interpretation}
 use Rattle.formula.specs.Passes.{Within}
 use Rattle.words.specs.Bit.{bit}
@@ -28,7 +25,7 @@ use Rattle.start.specs.declared.Entered.{Entered}
 use Rattle.start.specs.declared.Entered.the-variants.{Low, Stray}
 use Rattle.start.specs.Enters.{Enters}
 use Rattle.start.specs.WordLaws.{wordAtoms}
-use Rattle.start.specs.StartLaws.{half-place, Starting, starting-first, Continued, starting-skip, same-word, starting-within, starting-done, starting-more, starting-stray}
+use Rattle.start.specs.StartLaws.{half-place, Starting, starting-first, Continued, starting-skip, same-word, starting-within, starting-more, starting-stray}
 
 -- wherever the start stands at word i, with `low` the lowest node so far, it then stands at word j
 unfoldable pub Goes : Tables → List ℕ → List ℕ → ℕ → ℕ → Entered → List ℕ → ℕ → Type 0

@@ -2,7 +2,7 @@
 -- Assumes nothing.
 use Prim.Native.Nat.{ℕ, suc, _<_, _≤_, _+_, _-_, _*_, _/_, _%_, _^_}
 use native.Mathlib.Omega.{arith}
-use mathlib.Core.Path.{_≡_, refl, ap, ap₂, sym, _∙_}
+use mathlib.Core.Path.{_≡_, refl, ap, sym, _∙_}
 use mathlib.Core.Logic.{⊎-elim}
 use mathlib.Core.Bool.{Bool, true, false, not, cond}
 use mathlib.Core.List.{List}
@@ -27,7 +27,7 @@ use Rattle.kept.specs.Step.{Stepped, idle, took, fault, step}
 use Rattle.kept.specs.Start.{walkStart, lowestEntered}
 use Rattle.kept.specs.Walk.{broken, walk, walkFrom, keptWalk}
 use Rattle.kept.specs.Check.{Result, concluded, keptResult}
-use Rattle.kept.specs.Layout.{ofWords, written, candidateStart, missingStart, used}
+use Rattle.kept.specs.Layout.{ofWords, written, candidateStart, used}
 use Rattle.kept.specs.LayoutLaws.{Fits, fits-of}
 use Rattle.kept_laws.specs.FitsLaws.{step-fits, start-fits}
 use Rattle.kept_laws.specs.WalkEnds.{step-next}
