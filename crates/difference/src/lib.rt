@@ -32,7 +32,7 @@ fn pair(kept: &[u32], i: usize) -> u64
 }
 
 // Whether two words of the kept candidate, at places 2 j and 2 j + 1 from `at` on, are word j of the new one.
-pub fn same_pair(candidate: &[u64], kept: &[u32], at: usize, j: usize) -> bool
+fn same_pair(candidate: &[u64], kept: &[u32], at: usize, j: usize) -> bool
     requires { ⌜ (j < length (now candidate)) × (at + 2 * j + 1 < length (now kept)) ⌝ }
     ensures { λ r. ⌜ (r ≡ true → Same at (now (kept .entry)) (now (candidate .entry)) (2 * j) × Same at (now (kept .entry)) (now (candidate .entry)) (2 * j + 1)) ⌝ }
 {
