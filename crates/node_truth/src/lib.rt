@@ -110,7 +110,10 @@ pub fn implies_truth(kept: &[u32], k: usize, left: usize, right: usize) -> Seen
     if right >= k {
         return Seen::Stray;
     }
-    known(!holds(kept, left) || holds(kept, right))
+    // both are read, so that no branch goes by a truth
+    let l = holds(kept, left);
+    let r = holds(kept, right);
+    known(!l || r)
 }
 
 // Node k.

@@ -36,7 +36,7 @@ known-requires c κs = search needs
 -- src/lib.rt:104:1
 returns-3 : tie.Need-returns-3
 unfolding impliesSeen
-returns-3 c = rw (lt-ltb _ _ (c .before .before .before .before .if1 .left), lt-ltb _ _ (c .before .before .before .if2 .left)) (c .known .ensures ∙ ap some (⊎-elim (λ w. rw (w .1, ← c .before .before .holds .ensures, w .0 .taken)) (λ w. rw (w .2, ← c .before .before .holds .ensures, w .0 .left, w .1 .ensures)) (c .before .if3 .came)))
+returns-3 c = rw (lt-ltb _ _ (c .before .before .before .before .before .if1 .left), lt-ltb _ _ (c .before .before .before .before .if2 .left)) (c .known .ensures ∙ ap some (⊎-elim (λ w. rw (w .1, ← c .before .before .before .holds .ensures, w .0 .taken)) (λ w. rw (w .1, ← c .before .before .before .holds .ensures, w .0 .left, c .before .before .holds2 .ensures)) (c .before .if3 .came)))
 
 pub implies-truth-spec : {M : Type 1} → statement M
 implies-truth-spec =
