@@ -133,7 +133,7 @@ fn block_changes(
     pairs_changes(candidate, kept, at, first, end, marks)
 }
 
-// The same of all whole pairs.
+// The same of all pairs.
 fn all_changes(candidate: &[u64], kept: &[u32], at: usize, pairs: usize, marks: &mut [u64]) -> usize
     requires { ⌜ (pairs ≤ 1024) × (pairs ≤ length (now candidate)) × (at + 2 * pairs ≤ length (now kept)) × (pairs ≤ 64 * length (now marks)) ⌝ }
     ensures { λ r. ⌜ r ≡ wordChanges at (now (kept .entry)) (now (candidate .entry)) (2 * pairs) ⌝ }
@@ -149,7 +149,7 @@ fn all_changes(candidate: &[u64], kept: &[u32], at: usize, pairs: usize, marks: 
     sum
 }
 
-// At how many atoms words `first` to `words` differ, with marks: those behind the whole pairs, two at most.
+// At how many atoms words `first` to `words` differ, with marks: those behind the pairs, one at most.
 fn rest_changes(
     candidate: &[u64],
     kept: &[u32],
@@ -179,8 +179,8 @@ pub fn difference(counts: Counts, candidate: &[u64], kept: &[u32], marks: &mut [
 {
     let n = counts.nodes;
     let at = 16 + n + (n + 31) / 32 + counts.atoms;
-    let pairs = counts.atoms / 64;
-    let whole = all_changes(candidate, kept, at, pairs, marks);
     let words = (counts.atoms + 31) / 32;
+    let pairs = words / 2;
+    let whole = all_changes(candidate, kept, at, pairs, marks);
     whole + rest_changes(candidate, kept, at, 2 * pairs, words, marks)
 }

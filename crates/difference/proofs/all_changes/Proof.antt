@@ -20,39 +20,30 @@ Inv-loop candidate kept at pairs marks₀ sum₀ j₀ marks sum j =
 abbrev μ-loop : tie.MeasureT-loop
 μ-loop candidate kept at pairs marks₀ sum₀ j₀ marks sum j = pairs - j
 
--- src/lib.rt:148:5
 loop-holds : tie.Need-loop-holds Inv-loop μ-loop
 loop-holds c = (all-none (c .before .before .before .args .at) (c .before .before .before .args .kept .now) (c .before .before .before .args .candidate .now), upto-none (c .before .before .before .args .at) (c .before .before .before .args .kept .now) (c .before .before .before .args .candidate .now) (c .before .before .before .args .marks .now), refl, omega arith)
 
--- src/lib.rt:149:27
 add-smaller : tie.Need-add-smaller Inv-loop μ-loop
 add-smaller c = search needs
 
--- src/lib.rt:149:13
 smaller-requires : tie.Need-smaller-requires Inv-loop μ-loop
 smaller-requires c κs = search needs
 
--- src/lib.rt:150:21
 block-changes-requires : tie.Need-block-changes-requires Inv-loop μ-loop
 block-changes-requires c κs = (omega (arith, c .before .smaller .ensures, c .before .before .loop-test .taken), omega (arith, c .before .smaller .ensures), omega (arith, c .before .smaller .ensures, c .before .before .before .before .before .before .before .pre .0), omega (arith, c .before .smaller .ensures, c .before .before .before .before .before .before .before .pre .1), omega (arith, c .before .smaller .ensures, c .before .before .before .before .before .before .before .pre .2), omega (arith, c .before .smaller .ensures, c .before .before .before .before .before .before .before .pre .3, c .before .before .before .loop .inv .2))
 
--- src/lib.rt:150:15
 add-sum : tie.Need-add-sum Inv-loop μ-loop
 add-sum c = omega (arith, c .before .before .before .before .smaller .ensures, c .before .before .before .before .before .before .before .before .before .before .pre .0, all-most _ _ _ _ _ _ _ (c .before .before .before .before .before .before .loop .inv .0) (c .before .before .block-changes .ensures .0))
 
--- src/lib.rt:148:5
 loop-less : tie.Need-loop-less Inv-loop μ-loop
 loop-less c = omega (arith, c .before .before .before .before .smaller .ensures, c .before .before .before .before .before .loop-test .taken)
 
--- src/lib.rt:148:5
 loop-again : tie.Need-loop-again Inv-loop μ-loop
 loop-again c = (all-more _ _ _ _ _ _ _ (c .before .before .before .before .before .before .loop .inv .0) (c .before .before .block-changes .ensures .0), c .before .before .block-changes .ensures .1 (c .before .before .before .before .before .before .loop .inv .1), c .before .before .block-changes .kept .1 .1 .1 .1 .1 .0 ∙ c .before .before .before .before .before .before .loop .inv .2, omega (arith, c .before .before .before .before .smaller .ensures))
 
--- src/lib.rt:135:1
 same-length : tie.Need-same-length Inv-loop μ-loop
 same-length c = search needs
 
--- src/lib.rt:135:1
 returns : tie.Need-returns Inv-loop μ-loop
 returns c = let e : c .before .loop .j ≡ c .before .before .before .before .before .args .pairs = omega (arith, c .before .loop .inv .3, c .loop-test .left) in (rw e at (c .before .loop .inv .0), rw e at (c .before .loop .inv .1))
 

@@ -12,23 +12,18 @@ use Rattle.difference.proofs.block_changes.Lts as lts
 use Rattle.difference.proofs.pairs_changes.Reads as pairs-changes-reads
 use Rattle.difference.proofs.same_pairs.Reads as same-pairs-reads
 
--- src/lib.rt:128:8
 same-pairs-requires : tie.Need-same-pairs-requires
 same-pairs-requires c κs = search needs
 
--- src/lib.rt:129:9
 returns : tie.Need-returns
 returns c = (add-zero _ ∙ none-changed (c .before .before .before .before .before .args .at) (c .before .before .before .before .before .args .kept .now) (c .before .before .before .before .before .args .candidate .now) (2 * c .before .before .before .before .before .args .first) (2 * c .before .before .before .before .before .args .end) (omega (arith, c .before .before .before .before .before .pre .0)) (c .before .same-pairs .ensures (c .if1 .taken)), upto-same (c .before .before .before .before .before .args .at) (c .before .before .before .before .before .args .kept .now) (c .before .before .before .before .before .args .candidate .now) (c .before .before .before .before .before .args .first) (c .before .before .before .before .before .args .end) (c .before .before .before .before .before .args .marks .now) (c .before .same-pairs .ensures (c .if1 .taken)))
 
--- src/lib.rt:131:5
 pairs-changes-requires : tie.Need-pairs-changes-requires
 pairs-changes-requires c κs = search needs
 
--- src/lib.rt:116:1
 same-length : tie.Need-same-length
 same-length c = search needs
 
--- src/lib.rt:116:1
 returns-2 : tie.Need-returns-2
 returns-2 c = search needs
 

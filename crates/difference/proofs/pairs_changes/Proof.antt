@@ -19,35 +19,27 @@ Inv-loop candidate kept at first end marks₀ sum₀ j₀ marks sum j =
 abbrev μ-loop : tie.MeasureT-loop
 μ-loop candidate kept at first end marks₀ sum₀ j₀ marks sum j = end - j
 
--- src/lib.rt:82:5
 loop-holds : tie.Need-loop-holds Inv-loop μ-loop
 loop-holds c = (add-zero _, (λ u. u), refl, c .before .before .before .pre .0)
 
--- src/lib.rt:83:21
 pair-changes-requires : tie.Need-pair-changes-requires Inv-loop μ-loop
 pair-changes-requires c κs = search needs
 
--- src/lib.rt:83:15
 add-sum : tie.Need-add-sum Inv-loop μ-loop
 add-sum c = omega (arith, sum-most _ _ _ _ _ _ _ _ (c .before .before .before .before .before .loop .inv .0) (c .before .before .pair-changes .ensures .0))
 
--- src/lib.rt:84:9
 add-j : tie.Need-add-j Inv-loop μ-loop
 add-j c = search needs
 
--- src/lib.rt:82:5
 loop-less : tie.Need-loop-less Inv-loop μ-loop
 loop-less c = search needs
 
--- src/lib.rt:82:5
 loop-again : tie.Need-loop-again Inv-loop μ-loop
 loop-again c = (sum-more _ _ _ _ _ _ _ _ (c .before .before .before .before .before .loop .inv .0) (c .before .before .pair-changes .ensures .0), (λ u. c .before .before .pair-changes .ensures .1 (c .before .before .before .before .before .loop .inv .1 u)), c .before .before .pair-changes .kept .1 .1 .1 .1 .0 ∙ c .before .before .before .before .before .loop .inv .2, omega (arith, c .before .before .before .before .loop-test .taken))
 
--- src/lib.rt:68:1
 same-length : tie.Need-same-length Inv-loop μ-loop
 same-length c = search needs
 
--- src/lib.rt:68:1
 returns : tie.Need-returns Inv-loop μ-loop
 returns c = let e : c .before .loop .j ≡ c .before .before .before .before .before .args .end = omega (arith, c .before .loop .inv .3, c .loop-test .left) in (rw e at (c .before .loop .inv .0), rw e at (c .before .loop .inv .1))
 

@@ -19,35 +19,27 @@ Inv-loop candidate kept at first words marks₀ sum₀ i₀ marks sum i =
 abbrev μ-loop : tie.MeasureT-loop
 μ-loop candidate kept at first words marks₀ sum₀ i₀ marks sum i = words - i
 
--- src/lib.rt:167:5
 loop-holds : tie.Need-loop-holds Inv-loop μ-loop
 loop-holds c = (add-zero _, (λ u. u), refl, c .before .before .before .pre .0)
 
--- src/lib.rt:168:21
 word-changes-requires : tie.Need-word-changes-requires Inv-loop μ-loop
 word-changes-requires c κs = (omega (arith, c .before .loop-test .taken, c .before .before .before .before .before .before .pre .2), omega (arith, c .before .loop-test .taken, c .before .before .before .before .before .before .pre .3), omega (arith, c .before .loop-test .taken, c .before .before .before .before .before .before .pre .4, c .before .before .loop .inv .2))
 
--- src/lib.rt:168:15
 add-sum : tie.Need-add-sum Inv-loop μ-loop
 add-sum c = omega (arith, sum-most _ _ _ _ _ _ _ _ (c .before .before .before .before .before .loop .inv .0) (word-more _ _ _ _ _ (c .before .before .word-changes .ensures .0)))
 
--- src/lib.rt:169:9
 add-i : tie.Need-add-i Inv-loop μ-loop
 add-i c = search needs
 
--- src/lib.rt:167:5
 loop-less : tie.Need-loop-less Inv-loop μ-loop
 loop-less c = search needs
 
--- src/lib.rt:167:5
 loop-again : tie.Need-loop-again Inv-loop μ-loop
 loop-again c = (sum-more _ _ _ _ _ _ _ _ (c .before .before .before .before .before .loop .inv .0) (word-more _ _ _ _ _ (c .before .before .word-changes .ensures .0)), (λ u. c .before .before .word-changes .ensures .1 (c .before .before .before .before .before .loop .inv .1 u)), c .before .before .word-changes .kept .1 .1 .1 .1 .0 ∙ c .before .before .before .before .before .loop .inv .2, omega (arith, c .before .before .before .before .loop-test .taken))
 
--- src/lib.rt:153:1
 same-length : tie.Need-same-length Inv-loop μ-loop
 same-length c = search needs
 
--- src/lib.rt:153:1
 returns : tie.Need-returns Inv-loop μ-loop
 returns c = let e : c .before .loop .i ≡ c .before .before .before .before .before .args .words = omega (arith, c .before .loop .inv .3, c .loop-test .left) in (rw e at (c .before .loop .inv .0), rw e at (c .before .loop .inv .1))
 

@@ -12,55 +12,42 @@ use Rattle.retained.proofs.half_word.Reads as half-word-reads
 use Rattle.words.proofs.set32.changed.Reads as changed-reads
 use Rattle.words.proofs.set64.insert.Reads as insert-reads
 
--- src/lib.rt:48:9
 half-word-requires : tie.Need-half-word-requires
 half-word-requires c κs = search needs
 
--- src/lib.rt:49:13
 add-if1 : tie.Need-add-if1
 add-if1 c = search needs
 
--- src/lib.rt:49:8
 mul-if1 : tie.Need-mul-if1
 mul-if1 c = search needs
 
--- src/lib.rt:49:8
 shared-slice-read-if1 : tie.Need-shared-slice-read-if1
 shared-slice-read-if1 c = search needs
 
--- src/lib.rt:50:9
 returns : tie.Need-returns
 returns c = (changed-same _ _ (c .if1 .taken ∙ c .before .before .half-word .ensures), upto-word (c .before .before .before .before .before .before .args .at) (c .before .before .before .before .before .before .args .kept .now) (c .before .before .before .before .before .before .args .candidate .now) (c .before .before .before .before .before .before .args .i) (c .before .before .before .before .before .before .args .marks .now) (c .if1 .taken ∙ c .before .before .half-word .ensures))
 
--- src/lib.rt:52:5
 insert-requires : tie.Need-insert-requires
 insert-requires c κs = search needs
 
--- src/lib.rt:53:32
 add-changed : tie.Need-add-changed
 add-changed c = search needs
 
--- src/lib.rt:53:27
 mul-changed : tie.Need-mul-changed
 mul-changed c = search needs
 
--- src/lib.rt:53:27
 shared-slice-read-changed : tie.Need-shared-slice-read-changed
 shared-slice-read-changed c = search needs
 
--- src/lib.rt:53:5
 changed-requires : tie.Need-changed-requires
 changed-requires c κs = search needs
 
--- src/lib.rt:53:5
 cast-result : tie.Need-cast-result
 cast-result c = search needs
 
--- src/lib.rt:43:1
 same-length : tie.Need-same-length
 same-length c = search needs
 
--- src/lib.rt:43:1
 returns-2 : tie.Need-returns-2
 returns-2 c = (rw (c .before .before .before .before .before .before .before .before .half-word .ensures) at (c .changed .ensures), rw (c .before .before .before .before .insert .ensures) (upto-marked (c .before .before .before .before .before .before .before .before .before .before .before .before .args .at) (c .before .before .before .before .before .before .before .before .before .before .before .before .args .kept .now) (c .before .before .before .before .before .before .before .before .before .before .before .before .args .candidate .now) (c .before .before .before .before .before .before .before .before .before .before .before .before .args .i) (c .before .before .before .before .before .before .before .before .before .before .before .before .args .i + 1) (c .before .before .before .before .before .before .before .before .before .before .before .before .args .i / 2) (c .before .before .before .before .before .before .before .before .before .before .before .before .args .marks .now) (c .before .before .before .before .before .before .before .before .before .before .before .before .pre .2) (omega arith) (omega arith)))
 
