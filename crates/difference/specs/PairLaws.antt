@@ -1,6 +1,6 @@
 -- Two words of the kept candidate against a word of the new one.
 -- Assumes nothing.
-use Prim.Native.Nat.{ℕ, _<_, _+_, _*_, _/_, _%_}
+use Prim.Native.Nat.{ℕ, _<_, _≤_, _+_, _*_, _/_, _%_}
 use native.Mathlib.Omega.{arith}
 use mathlib.Core.Path.{_≡_, sym, ap, _∙_}
 use mathlib.Core.Logic.{⊎-elim}
@@ -10,7 +10,7 @@ use lib.ListN.{getD}
 use Rattle.base.specs.Tests.{below-or, equal-or}
 use Rattle.words.specs.Changed.{changed}
 use Rattle.kept_laws.specs.Halves.{half}
-use Rattle.difference.specs.ChangedLaws.{wordChanges, word-more, changed-same}
+use Rattle.difference.specs.ChangedLaws.{wordChanges, word-more, changed-same, none-changed}
 use Rattle.difference.specs.Marks.{Same, SameFrom}
 
 low-half : (new : List ℕ) (j x y : ℕ) → x < 4294967296 → x + y * 4294967296 ≡ getD new j 0 → x ≡ half new (2 * j)
@@ -65,11 +65,15 @@ module _ (at : ℕ) (kept new : List ℕ) (first : ℕ) where
   pub from-none : SameFrom at kept new first first
   from-none i a b = absurd (omega arith)
 
-  from-more : (j : ℕ) → SameFrom at kept new first j → Pair at kept new j → SameFrom at kept new first (j + 1)
+  pub from-more : (j : ℕ) → SameFrom at kept new first j → Pair at kept new j → SameFrom at kept new first (j + 1)
   from-more j s p i a b = ⊎-elim (λ l. s i a l) (λ l. ⊎-elim (λ e. rw e (p .0)) (λ ne. last (omega arith)) (equal-or i (2 * j))) (below-or i (2 * j))
     where
       last : i ≡ 2 * j + 1 → Same at kept new i
       last e = rw e (p .1)
+
+  -- pairs that are the same add no change
+  pub from-adds : (end : ℕ) → first ≤ end → SameFrom at kept new first end → wordChanges at kept new (2 * first) ≡ wordChanges at kept new (2 * end)
+  from-adds end l s = none-changed at kept new (2 * first) (2 * end) (omega arith) s
 
   pub from-pair : Pair at kept new first → SameFrom at kept new first (first + 1)
   from-pair p = from-more first from-none p

@@ -39,6 +39,21 @@ fn same_pair(candidate: &[u64], kept: &[u32], at: usize, j: usize) -> bool
     pair(kept, at + 2 * j) == candidate[j]
 }
 
+// The first pair from `first` on, below `end`, that is not the same, else `end`.
+fn next_changed(candidate: &[u64], kept: &[u32], at: usize, first: usize, end: usize) -> usize
+    requires { ⌜ (first ≤ end) × (end ≤ length (now candidate)) × (at + 2 * end ≤ length (now kept)) ⌝ }
+    ensures { λ r. ⌜ (first ≤ r) × (r ≤ end) × SameFrom at (now (kept .entry)) (now (candidate .entry)) first r ⌝ }
+{
+    let mut j = first;
+    while j < end {
+        if !same_pair(candidate, kept, at, j) {
+            return j;
+        }
+        j += 1;
+    }
+    j
+}
+
 // At how many atoms word i differs; its pair is marked if it does.
 fn word_changes(candidate: &[u64], kept: &[u32], at: usize, i: usize, marks: &mut [u64]) -> usize
     requires { ⌜ (i < 2 * length (now candidate)) × (at + i < length (now kept)) × (i / 2 / 64 < length (now marks)) ⌝ }
@@ -80,10 +95,10 @@ fn pairs_changes(
     ensures { λ _. ⌜ (Upto at (now (kept .entry)) (now (candidate .entry)) (2 * first) (now (marks .entry)) → Upto at (now (kept .entry)) (now (candidate .entry)) (2 * end) (now (marks .exit))) ⌝ }
 {
     let mut sum = 0;
-    let mut j = first;
+    let mut j = next_changed(candidate, kept, at, first, end);
     while j < end {
         sum = sum + pair_changes(candidate, kept, at, j, marks);
-        j += 1;
+        j = next_changed(candidate, kept, at, j + 1, end);
     }
     sum
 }

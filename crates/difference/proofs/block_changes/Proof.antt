@@ -1,8 +1,6 @@
 use native.Mathlib.Nat.{add-zero}
 use mathlib.Core.Path.{_∙_}
-use Prim.Native.Nat.{_*_}
-use native.Mathlib.Omega.{arith}
-use Rattle.difference.specs.ChangedLaws.{none-changed}
+use Rattle.difference.specs.PairLaws.{from-adds}
 use Rattle.difference.specs.MarkLaws.{upto-same}
 use borrow.Author.Needs.{needs}
 use Rattle.difference.proofs.block_changes.Statement.{statement}
@@ -16,7 +14,7 @@ same-pairs-requires : tie.Need-same-pairs-requires
 same-pairs-requires c κs = search needs
 
 returns : tie.Need-returns
-returns c = (add-zero _ ∙ none-changed (c .before .before .before .before .before .args .at) (c .before .before .before .before .before .args .kept .now) (c .before .before .before .before .before .args .candidate .now) (2 * c .before .before .before .before .before .args .first) (2 * c .before .before .before .before .before .args .end) (omega (arith, c .before .before .before .before .before .pre .0)) (c .before .same-pairs .ensures (c .if1 .taken)), upto-same (c .before .before .before .before .before .args .at) (c .before .before .before .before .before .args .kept .now) (c .before .before .before .before .before .args .candidate .now) (c .before .before .before .before .before .args .first) (c .before .before .before .before .before .args .end) (c .before .before .before .before .before .args .marks .now) (c .before .same-pairs .ensures (c .if1 .taken)))
+returns c = (add-zero _ ∙ from-adds (c .before .before .before .before .before .args .at) (c .before .before .before .before .before .args .kept .now) (c .before .before .before .before .before .args .candidate .now) (c .before .before .before .before .before .args .first) (c .before .before .before .before .before .args .end) (c .before .before .before .before .before .pre .0) (c .before .same-pairs .ensures (c .if1 .taken)), upto-same (c .before .before .before .before .before .args .at) (c .before .before .before .before .before .args .kept .now) (c .before .before .before .before .before .args .candidate .now) (c .before .before .before .before .before .args .first) (c .before .before .before .before .before .args .end) (c .before .before .before .before .before .args .marks .now) (c .before .same-pairs .ensures (c .if1 .taken)))
 
 pairs-changes-requires : tie.Need-pairs-changes-requires
 pairs-changes-requires c κs = search needs
