@@ -42,7 +42,7 @@ pub changed-same : (x y : ℕ) → x ≡ y → 0 ≡ changed 32 x y
 unfolding changed
 changed-same x y e = rw e (sym (count-none (λ k. unlike (bit y k) (bit y k)) 0 32 (λ k a b. unlike-self (bit y k))))
 
-pub word-most : (x y r : ℕ) → r ≡ changed 32 x y → r ≤ 32
+word-most : (x y r : ℕ) → r ≡ changed 32 x y → r ≤ 32
 unfolding changed
 word-most x y r p = rw p (count-most (λ k. unlike (bit x k) (bit y k)) 0 32)
 

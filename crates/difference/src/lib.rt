@@ -54,34 +54,17 @@ fn next_changed(candidate: &[u64], kept: &[u32], at: usize, first: usize, end: u
     j
 }
 
-// At how many atoms word i differs; its pair is marked if it does.
-fn word_changes(candidate: &[u64], kept: &[u32], at: usize, i: usize, marks: &mut [u64]) -> usize
-    requires { ⌜ (i < 2 * length (now candidate)) × (at + i < length (now kept)) × (i / 2 / 64 < length (now marks)) ⌝ }
-    ensures { λ r. ⌜ r ≡ changed 32 (getD (now (kept .entry)) (at + i) 0) (half (now (candidate .entry)) i) ⌝ }
-    ensures { λ _. ⌜ (Upto at (now (kept .entry)) (now (candidate .entry)) i (now (marks .entry)) → Upto at (now (kept .entry)) (now (candidate .entry)) (i + 1) (now (marks .exit))) ⌝ }
-{
-    let new = retained::half_word(candidate, i);
-    if kept[at + i] == new {
-        return 0;
-    }
-    words::set64::insert(marks, i / 2);
-    words::set32::changed(kept[at + i], new) as usize
-}
-
-// The same of pair j.
+// At how many atoms pair j differs; it is marked.
 fn pair_changes(candidate: &[u64], kept: &[u32], at: usize, j: usize, marks: &mut [u64]) -> usize
     requires { ⌜ (j < length (now candidate)) × (at + 2 * j + 1 < length (now kept)) × (j / 64 < length (now marks)) ⌝ }
     ensures { λ r. ⌜ wordChanges at (now (kept .entry)) (now (candidate .entry)) (2 * j) + r ≡ wordChanges at (now (kept .entry)) (now (candidate .entry)) (2 * (j + 1)) ⌝ }
     ensures { λ _. ⌜ (Upto at (now (kept .entry)) (now (candidate .entry)) (2 * j) (now (marks .entry)) → Upto at (now (kept .entry)) (now (candidate .entry)) (2 * (j + 1)) (now (marks .exit))) ⌝ }
 {
-    if same_pair(candidate, kept, at, j) {
-        return 0;
-    }
-    let low = word_changes(candidate, kept, at, 2 * j, marks);
-    low + word_changes(candidate, kept, at, 2 * j + 1, marks)
+    words::set64::insert(marks, j);
+    words::set64::changed(pair(kept, at + 2 * j), candidate[j]) as usize
 }
 
-// The same of pairs `first` to `end`.
+// At how many atoms pairs `first` to `end` differ; those that do are marked.
 fn pairs_changes(
     candidate: &[u64],
     kept: &[u32],
@@ -162,6 +145,20 @@ fn all_changes(candidate: &[u64], kept: &[u32], at: usize, pairs: usize, marks: 
         j = end;
     }
     sum
+}
+
+// At how many atoms word i differs; its pair is marked if it does.
+fn word_changes(candidate: &[u64], kept: &[u32], at: usize, i: usize, marks: &mut [u64]) -> usize
+    requires { ⌜ (i < 2 * length (now candidate)) × (at + i < length (now kept)) × (i / 2 / 64 < length (now marks)) ⌝ }
+    ensures { λ r. ⌜ r ≡ changed 32 (getD (now (kept .entry)) (at + i) 0) (half (now (candidate .entry)) i) ⌝ }
+    ensures { λ _. ⌜ (Upto at (now (kept .entry)) (now (candidate .entry)) i (now (marks .entry)) → Upto at (now (kept .entry)) (now (candidate .entry)) (i + 1) (now (marks .exit))) ⌝ }
+{
+    let new = retained::half_word(candidate, i);
+    if kept[at + i] == new {
+        return 0;
+    }
+    words::set64::insert(marks, i / 2);
+    words::set32::changed(kept[at + i], new) as usize
 }
 
 // At how many atoms words `first` to `words` differ, with marks: those behind the pairs, one at most.

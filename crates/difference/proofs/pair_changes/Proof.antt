@@ -1,58 +1,55 @@
 use Prim.Native.Nat.{_+_, _*_}
 use native.Mathlib.Omega.{arith}
-use mathlib.Core.Path.{_≡_}
-use Rattle.difference.specs.ChangedLaws.{word-most}
-use Rattle.difference.specs.PairLaws.{pair-more, pair-none, from-pair}
-use Rattle.difference.specs.MarkLaws.{upto-same}
 use borrow.Author.Needs.{needs}
+use Rattle.difference.specs.PairLaws.{pair-changed}
+use Rattle.difference.specs.MarkLaws.{upto-marked}
 use Rattle.difference.proofs.pair_changes.Statement.{statement}
 use Rattle.difference.proofs.pair_changes.Tie as tie
-use Rattle.difference.proofs.pair_changes.Reads as reads
-use Rattle.difference.proofs.pair_changes.Lts as lts
-use Rattle.difference.proofs.same_pair.Reads as same-pair-reads
-use Rattle.difference.proofs.word_changes.Reads as word-changes-reads
 
-same-pair-requires : tie.Need-same-pair-requires
-same-pair-requires c κs = search needs
+insert-requires : tie.Need-insert-requires
+insert-requires c κs = search needs
 
-returns : tie.Need-returns
-returns c = (pair-none (c .before .before .before .before .before .args .at) (c .before .before .before .before .before .args .kept .now) (c .before .before .before .before .before .args .candidate .now) (c .before .before .before .before .before .args .j) (c .before .same-pair .ensures (c .if1 .taken)), upto-same (c .before .before .before .before .before .args .at) (c .before .before .before .before .before .args .kept .now) (c .before .before .before .before .before .args .candidate .now) (c .before .before .before .before .before .args .j) (c .before .before .before .before .before .args .j + 1) (c .before .before .before .before .before .args .marks .now) (from-pair (c .before .before .before .before .before .args .at) (c .before .before .before .before .before .args .kept .now) (c .before .before .before .before .before .args .candidate .now) (c .before .before .before .before .before .args .j) (c .before .same-pair .ensures (c .if1 .taken))))
+mul-pair : tie.Need-mul-pair
+mul-pair c = search needs
 
-mul-word-changes : tie.Need-mul-word-changes
-mul-word-changes c = search needs
+add-pair : tie.Need-add-pair
+add-pair c = search needs
 
-word-changes-requires : tie.Need-word-changes-requires
-word-changes-requires c κs = search needs
+pair-requires : tie.Need-pair-requires
+pair-requires c κs = search needs
 
-mul-word-changes-2 : tie.Need-mul-word-changes-2
-mul-word-changes-2 c = search needs
+mul-changed : tie.Need-mul-changed
+mul-changed c = search needs
 
-add-word-changes : tie.Need-add-word-changes
-add-word-changes c = search needs
+shared-slice-read-changed : tie.Need-shared-slice-read-changed
+shared-slice-read-changed c = search needs
 
-word-changes-requires-2 : tie.Need-word-changes-requires-2
-word-changes-requires-2 c κs = search needs
+changed-requires : tie.Need-changed-requires
+changed-requires c κs = search needs
 
-add-result : tie.Need-add-result
-add-result c = omega (arith, word-most _ _ _ (c .before .before .before .before .before .before .word-changes .ensures .0), word-most _ _ _ (c .before .before .word-changes2 .ensures .0))
+cast-result : tie.Need-cast-result
+cast-result c = search needs
 
 same-length : tie.Need-same-length
 same-length c = search needs
 
-returns-2 : tie.Need-returns-2
-returns-2 c = (pair-more (c .before .before .before .before .before .before .before .before .before .before .before .before .before .args .at) (c .before .before .before .before .before .before .before .before .before .before .before .before .before .args .kept .now) (c .before .before .before .before .before .before .before .before .before .before .before .before .before .args .candidate .now) (c .before .before .before .before .before .before .before .before .before .before .before .before .before .args .j) _ _ (c .before .before .before .before .before .before .word-changes .ensures .0) (c .before .before .word-changes2 .ensures .0), λ u. let e : 2 * (c .before .before .before .before .before .before .before .before .before .before .before .before .before .args .j + 1) ≡ 2 * c .before .before .before .before .before .before .before .before .before .before .before .before .before .args .j + 1 + 1 = omega arith in rw e (c .before .before .word-changes2 .ensures .1 (c .before .before .before .before .before .before .word-changes .ensures .1 u)))
+returns : tie.Need-returns
+returns c = (
+  pair-changed (c .before .before .before .before .before .before .before .before .before .before .args .at) (c .before .before .before .before .before .before .before .before .before .before .args .kept .now) (c .before .before .before .before .before .before .before .before .before .before .args .candidate .now) (c .before .before .before .before .before .before .before .before .before .before .args .j) (c .before .before .pair .result) (c .changed .result) (c .before .before .pair .ensures) (omega (arith, c .before .before .before .before .before .before .before .before .shared-slice-known2 .given (c .before .before .before .before .before .before .before .before .before .before .args .at + 2 * c .before .before .before .before .before .before .before .before .before .before .args .j))) (omega (arith, c .before .before .before .before .before .before .before .before .shared-slice-known2 .given (c .before .before .before .before .before .before .before .before .before .before .args .at + 2 * c .before .before .before .before .before .before .before .before .before .before .args .j + 1))) (omega (arith, c .before .before .before .before .before .before .before .before .before .shared-slice-known .given (c .before .before .before .before .before .before .before .before .before .before .args .j))) (c .changed .ensures),
+  rw (c .before .before .before .before .before .insert .ensures) (upto-marked (c .before .before .before .before .before .before .before .before .before .before .args .at) (c .before .before .before .before .before .before .before .before .before .before .args .kept .now) (c .before .before .before .before .before .before .before .before .before .before .args .candidate .now) (2 * c .before .before .before .before .before .before .before .before .before .before .args .j) (2 * (c .before .before .before .before .before .before .before .before .before .before .args .j + 1)) (c .before .before .before .before .before .before .before .before .before .before .args .j) (c .before .before .before .before .before .before .before .before .before .before .args .marks .now) (c .before .before .before .before .before .before .before .before .before .before .pre .2) (omega arith) (omega arith)),
+)
 
 pub pair-changes-spec : {M : Type 1} → statement M
 pair-changes-spec =
     tie.close
     (tie.spec
-    same-pair-requires
-    returns
-    mul-word-changes
-    word-changes-requires
-    mul-word-changes-2
-    add-word-changes
-    word-changes-requires-2
-    add-result
+    insert-requires
+    mul-pair
+    add-pair
+    pair-requires
+    mul-changed
+    shared-slice-read-changed
+    changed-requires
+    cast-result
     same-length
-    returns-2)
+    returns)
