@@ -1,7 +1,7 @@
 // Sets of numbers in words of 32 bits.
 ghost use mathlib.Core.Path.{_≡_};
 ghost use mathlib.Core.Bool.{true, not};
-ghost use Prim.Native.Nat.{ℕ, _+_, _*_, _/_, _^_, _<_, _≤_};
+ghost use Prim.Native.Nat.{ℕ, _+_, _*_, _/_, _^_, _<_, _≤_, min};
 ghost use lib.ListN.{length, getD};
 ghost use lib.Dec.{eqb};
 ghost use Rattle.base.specs.Places.{lowest};
@@ -49,6 +49,13 @@ pub fn lowest(x: u32) -> u32
     u32::trailing_zeros(x)
 }
 
+// The smaller of two numbers.
+fn smaller(a: usize, b: usize) -> usize
+    ensures { λ r. ⌜ r ≡ min a b ⌝ }
+{
+    if a < b { a } else { b }
+}
+
 // The lowest member from `from` on, or 32 times the number of words if there is none.
 pub fn next(words: &[u32], from: usize) -> usize
     requires { ⌜ from ≤ 32 * length (now words) ⌝ }
@@ -66,15 +73,16 @@ pub fn next(words: &[u32], from: usize) -> usize
     from + u32::trailing_zeros(rest) as usize
 }
 
-// The same from the start of word `first` on: four words one by one, for what stands near, then block by block.
+// The same from the start of word `first` on. What stands near is found word by word, by loads as wide as the stores just made there;
+// what stands farther, block by block.
 fn next_word(words: &[u32], first: usize) -> usize
     requires { ⌜ first ≤ length (now words) ⌝ }
     requires { ⌜ 32 * length (now words) < 2 ^ 64 ⌝ }
     ensures { λ r. ⌜ r ≡ next 32 (now (words .entry)) (32 * first) ⌝ }
 {
-    let near = first + 4;
+    let near = smaller(first + 8, words.len());
     let mut q = first;
-    while q < words.len() && q < near {
+    while q < near {
         let x = words[q];
         if x != 0 {
             return 32 * q + u32::trailing_zeros(x) as usize;
