@@ -1,13 +1,13 @@
 -- What each branch of the tests gives, as code meets it.
 -- Assumes nothing.
-use Prim.Native.Nat.{ℕ, _*_, _^_, _<_, _≤_}
+use Prim.Native.Nat.{ℕ, _+_, _*_, _/_, _%_, _^_, _<_, _≤_}
 use native.Mathlib.Omega.{arith}
 use mathlib.Core.Path.{_≡_, refl, ap, sym, _∙_}
 use mathlib.Core.Bool.{Bool, true, false, cond, _&&_}
 use mathlib.Core.List.{List, [], _∷_}
 use lib.Dec.{eqb, ltb}
-use lib.ListN.{length, take}
-use lib.Seq.{length-take-le}
+use lib.ListN.{length, getD, take}
+use lib.Seq.{getD-take, length-take-le}
 use borrow.Author.Tests.{eq-eqb, ne-eqb, lt-ltb, le-ltb, ltb-false}
 use Rattle.theory.specs.Admission.{orElse}
 use Rattle.theory.specs.Limits.{limitsOf, Limited}
@@ -18,6 +18,7 @@ use Rattle.theory.specs.declared.Admission.the-variants.{Admitted, Refused}
 use Rattle.theory.specs.declared.Refusal.{Refusal}
 use Rattle.theory.specs.declared.Refusal.the-variants.{ShortBuffer, ForeignStamp, StrayBit}
 use Rattle.words.specs.Next.{next}
+use Rattle.words.specs.NextLaws.{next-end, next-rest}
 use Rattle.kept.specs.Candidate.{Candidate}
 use Rattle.kept.specs.SetOf.{words64}
 use Rattle.kept.specs.Tables.{Tables}
@@ -67,6 +68,23 @@ module _ (t : Counts) (ws : List ℕ) (long : words64 (t .atoms) ≤ length ws) 
     pub stray-none : 64 * words64 (t .atoms) ≤ i → (T : Tables) (stamp : ℕ) → Admitted ≡ strayBit (sized t T) (record { stamp = stamp; words = ws })
     unfolding strayBit
     stray-none l T stamp = rw (← at, size, le-ltb i (64 * words64 (t .atoms)) l)
+
+  -- the atoms fill their last word
+  pub stray-full : t .atoms % 64 ≡ 0 → (T : Tables) (stamp : ℕ) → Admitted ≡ strayBit (sized t T) (record { stamp = stamp; words = ws })
+  stray-full z = stray-none (t .atoms) (sym (next-end 64 listed (t .atoms) (omega (arith, size)))) (omega arith)
+
+  -- the last word has no digit past the atoms
+  pub stray-clear : (t .atoms % 64 ≡ 0 → ⊥) → getD ws (t .atoms / 64) 0 / 2 ^ (t .atoms % 64) ≡ 0
+      → (T : Tables) (stamp : ℕ) → Admitted ≡ strayBit (sized t T) (record { stamp = stamp; words = ws })
+  stray-clear ne z = stray-none (64 * (t .atoms / 64 + 1)) (sym to) (omega arith)
+    where
+      last : t .atoms / 64 < words64 (t .atoms)
+      last = omega arith
+
+      to : next 64 listed (t .atoms) ≡ 64 * (t .atoms / 64 + 1)
+      to =
+          next-rest 64 listed (t .atoms) (omega arith) (omega (arith, size, last)) (rw (getD-take (words64 (t .atoms)) ws (t .atoms / 64) 0 last) z)
+          ∙ next-end 64 listed (64 * (t .atoms / 64 + 1)) (omega (arith, size))
 
 -- ---- all of them
 

@@ -52,11 +52,17 @@ fn short_buffer(counts: Counts, l: Lengths) -> Admission
     Admission::Admitted
 }
 
-// Refusal 16.
+// Refusal 16. A stray bit stands in the last word; its place is searched only where that word has one.
 fn stray_bit(counts: Counts, candidate: &[u64]) -> Admission
     requires { ⌜ Limited counts × (words64 (counts .atoms) ≤ length (now candidate)) ⌝ }
     ensures { λ r. ⌜ ((T : Tables) (stamp : ℕ) → r ≡ strayBit (sized counts T) (record { stamp = stamp; words = now (candidate .entry) })) ⌝ }
 {
+    if counts.atoms % 64 == 0 {
+        return Admission::Admitted;
+    }
+    if candidate[counts.atoms / 64] >> (counts.atoms % 64) == 0 {
+        return Admission::Admitted;
+    }
     let n = (counts.atoms + 63) / 64;
     let i = words::set64::next(&candidate[..n], counts.atoms);
     if i < 64 * n {
