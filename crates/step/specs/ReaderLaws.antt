@@ -1,18 +1,42 @@
 -- What each branch on a reader gives: the reader was told, or it is a 17.
 -- Assumes nothing.
-use Prim.Native.Nat.{ℕ, _<_, _≤_}
-use mathlib.Core.Path.{_≡_, sym, _∙_}
-use mathlib.Core.Bool.{Bool, false}
+use Prim.Native.Nat.{ℕ, zero, suc, _/_, _%_, _^_, _<_, _≤_}
+use native.Mathlib.Nat.{zero-add}
+use native.Mathlib.Omega.{arith}
+use mathlib.Core.Path.{_≡_, refl, ap, sym, _∙_}
+use mathlib.Core.Bool.{Bool, false, and-false}
+use lib.Dec.{ltb}
 use mathlib.Core.List.{List}
 use mathlib.Core.Option.{none}
 use borrow.Author.Tests.{lt-ltb, le-ltb}
 use Rattle.readers.specs.declared.Reading.{Reading}
+use Rattle.readers.specs.Reader.{packed, byTag, readingOf, packed-read}
 use Rattle.readers.specs.declared.Reading.the-variants.{Node, Producer, Root, Unknown}
 use Rattle.kept.specs.Tables.{Tables, atomCount, nodeCount, rootCount, headAt}
 use Rattle.kept.specs.Evaluation.{Evaluation}
 use Rattle.kept.specs.Step.{entered, supportMoved, rootTurned, readerUpdated}
 use Rattle.kept.specs.Layout.{ofWords}
 use Rattle.kept_laws.specs.Wrote.{Wrote, beside-same, wrote-none}
+
+-- a word below the number of nodes is that node
+pub small-read : (word n : ℕ) → word < n → n ≤ 262144 → readingOf word ≡ Node word
+unfolding packed
+small-read word n l h = ap readingOf (sym (zero-add word)) ∙ packed-read 0 word (omega arith)
+
+-- a node that is read has its word's number
+pub node-read : (word m : ℕ) → readingOf word ≡ Node m → m ≡ word
+unfolding readingOf
+node-read word m h = go (word / 2 ^ 62) refl h
+  where
+    index : Node (word % 2 ^ 62) ≡ Node m → word % 2 ^ 62 ≡ m
+    index e = cc
+
+    go : (tag : ℕ) → word / 2 ^ 62 ≡ tag → byTag tag (word % 2 ^ 62) ≡ Node m → m ≡ word
+    go zero t e = omega (arith, index e)
+    go (suc zero) t e = cc
+    go (suc (suc zero)) t e = cc
+    go (suc (suc (suc zero))) t e = cc
+    go (suc (suc (suc (suc n)))) t e = cc
 
 -- the word reads x, which the code found as r
 module _ (T : Tables) (ws : List ℕ) (k : ℕ) (t : Bool) (x r : Reading) (is : r ≡ x) where
@@ -27,9 +51,9 @@ module _ (T : Tables) (ws : List ℕ) (k : ℕ) (t : Bool) (x r : Reading) (is :
   unfolding readerUpdated
   node-below m p l = refused (rw (sym is ∙ p, le-ltb k m l))
 
-  pub node-past : (m : ℕ) → r ≡ Node m → k < m → nodeCount T ≤ m → Wrote T ws (readerUpdated T k t e x) false ws
+  pub node-past : (m : ℕ) → r ≡ Node m → nodeCount T ≤ m → Wrote T ws (readerUpdated T k t e x) false ws
   unfolding readerUpdated
-  node-past m p l h = refused (rw (sym is ∙ p, lt-ltb k m l, le-ltb m (nodeCount T) h))
+  node-past m p h = refused (rw (sym is ∙ p, le-ltb m (nodeCount T) h, and-false (ltb k m)))
 
   pub node-told : (m : ℕ) → r ≡ Node m → k < m → m < nodeCount T → (ok : Bool) (after : List ℕ) → Wrote T ws (entered T m e) ok after
       → Wrote T ws (readerUpdated T k t e x) ok after

@@ -28,7 +28,7 @@ pub enum Taking {
     Fault(usize),
 }
 
-// A reader of node k, which has become true or false, is told.
+// A reader of node k, which has become true or false, is told. A word below the number of nodes is that node as a reader, the most frequent one.
 fn update_reader(
     counts: Counts,
     made: usize,
@@ -41,16 +41,15 @@ fn update_reader(
     requires { ⌜ Limited counts × (made ≤ counts .roots) × (4 * counts .roots ≤ length (now producers)) × (usedBy counts ≤ length (now kept)) ⌝ }
     ensures { λ r. ⌜ ((T : Tables) → Wrote (produced counts made (now (producers .entry)) T) (now (kept .entry)) (readerUpdated (produced counts made (now (producers .entry)) T) k holds (ofWords (produced counts made (now (producers .entry)) T) (now (kept .entry))) (readingOf word)) r (now (kept .exit))) ⌝ }
 {
-    match Reader(word).reading() {
-        Reading::Node(m) => {
-            if m <= k {
-                return false;
-            }
-            if m >= counts.nodes {
-                return false;
-            }
-            retained::queue(counts, kept, m)
+    if word < counts.nodes as u64 {
+        let m = word as usize;
+        if m <= k {
+            return false;
         }
+        return retained::queue(counts, kept, m);
+    }
+    match Reader(word).reading() {
+        Reading::Node(_) => false,
         Reading::Producer(p) => {
             if p >= made {
                 return false;
