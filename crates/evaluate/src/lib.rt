@@ -176,6 +176,12 @@ pub fn check(
 ) -> Checked
     ensures { λ r. ⌜ outcomeOf r (now (kept .exit)) ≡ outcome 64 8 (tablesOf counts plan (now (nodes .entry)) (now (operands .entry)) (now (roots .entry)) (now (producers .entry)) (now (readers .entry))) (candidateOf stamp (now (candidate .entry))) (now (kept .entry)) ⌝ }
 {
+    let candidate = &candidate[..];
+    let nodes = &nodes[..];
+    let operands = &operands[..];
+    let roots = &roots[..];
+    let producers = &producers[..];
+    let readers = &readers[..];
     let l = Lengths {
         candidate: candidate.len(),
         nodes: nodes.len(),
