@@ -17,14 +17,14 @@ ghost use Rattle.difference.specs.Marks.{Same, SameFrom, Upto, Marked};
 use theory::Counts;
 
 // The smaller of two numbers.
-pub fn smaller(a: usize, b: usize) -> usize
+fn smaller(a: usize, b: usize) -> usize
     ensures { λ r. ⌜ r ≡ min a b ⌝ }
 {
     if a < b { a } else { b }
 }
 
 // Words i and i + 1 as one.
-fn pair(kept: &[u32], i: usize) -> u64
+pub fn pair(kept: &[u32], i: usize) -> u64
     requires { ⌜ i + 1 < length (now kept) ⌝ }
     ensures { λ r. ⌜ r ≡ getD (now (kept .entry)) i 0 + getD (now (kept .entry)) (i + 1) 0 * 4294967296 ⌝ }
 {

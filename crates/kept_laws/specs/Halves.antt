@@ -30,7 +30,7 @@ use Rattle.kept.specs.SetOfLaws.{Small, setOf-is}
 unfoldable pub half : List ℕ → ℕ → ℕ
 half ws i = getD ws (i / 2) 0 / 2 ^ (i % 2 * 32) % 2 ^ 32
 
-digit-low : (y j : ℕ) → j < 32 → bit (y % 2 ^ 32) j ≡ bit y j
+pub digit-low : (y j : ℕ) → j < 32 → bit (y % 2 ^ 32) j ≡ bit y j
 unfolding bit
 digit-low y j l =
     let e : 32 ≡ 31 - j + 1 + j = omega arith in
@@ -85,7 +85,7 @@ halves ws n w =
 -- ---- the difference of the kept candidate and the new one, word by word
 
 -- the places from i + j on are those of the test seen from i
-places-shift : (p : ℕ → Bool) (i n j : ℕ) → places p (i + j) n ≡ map (λ k. i + k) (places (λ k. p (i + k)) j n)
+pub places-shift : (p : ℕ → Bool) (i n j : ℕ) → places p (i + j) n ≡ map (λ k. i + k) (places (λ k. p (i + k)) j n)
 unfolding places
 places-shift p i zero j = refl
 places-shift p i (suc n) j = go (p (i + j)) refl (places-shift p i n (j + 1))

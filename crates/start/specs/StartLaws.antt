@@ -1,13 +1,12 @@
--- The start of the walk, word by word: the changed atoms of the words from i on are left.
+-- The start of the walk, pair of words by pair: the changed atoms of the words from i on are left.
 -- Assumes nothing.
-use Prim.Native.Nat.{ℕ, zero, suc, _<_, _≤_, _+_, _-_, _*_}
+use Prim.Native.Nat.{ℕ, zero, suc, _<_, _≤_, _+_, _-_, _*_, _/_, min}
 use native.Mathlib.Omega.{arith}
 use mathlib.Core.Path.{_≡_, refl, ap, ap₂, sym, _∙_}
 use mathlib.Core.Logic.{⊎-elim}
 use mathlib.Core.Bool.{Bool, true, false}
 use mathlib.Core.List.{List, [], _∷_, _++_, append-nil}
 use mathlib.Core.Option.{Option, some, none}
-use lib.Arith.{digits-div, digits-mod}
 use lib.Bits.{bitXor}
 use lib.ListN.{length, getD}
 use Rattle.base.specs.Tests.{below-or}
@@ -18,6 +17,8 @@ use Rattle.words.specs.Bit.{bit}
 use Rattle.words.specs.BitLaws.{bit-xor}
 use Rattle.words.specs.Changed.{unlike}
 use Rattle.words.specs.Sets.{member}
+use Rattle.words.specs.Next.{next}
+use Rattle.words.specs.NextLaws.{next-is}
 use Rattle.kept.specs.Tabulate.{tabulate-at}
 use Rattle.kept.specs.SetOf.{words32, setOf}
 use Rattle.kept.specs.SetOfLaws.{member-below, member-above}
@@ -32,11 +33,13 @@ use Rattle.kept_laws.specs.OptionLaws.{some-is, then-some}
 use Rattle.kept_laws.specs.Halves.{half, halves, word-places}
 use Rattle.kept_laws.specs.StartChanged.{allTurned, start-changed, turned-present, least-node-more}
 use Rattle.kept_laws.specs.Written.{get-candidate, of-written}
+use Rattle.difference.specs.Marks.{Upto}
 use Rattle.start.specs.declared.Entered.{Entered}
 use Rattle.start.specs.declared.Entered.the-variants.{Low, Stray}
 use Rattle.start.specs.Enters.{Enters}
 use Rattle.start.specs.WordLaws.{wordAtoms, turned-none, lowest-none}
-use Rattle.start.specs.Onward.{enters-low, enters-stray, Onward, onward-first, onward-room, onward-stray, onward-done, onward-more}
+use Rattle.start.specs.PairLaws.{place-member, kept-place}
+use Rattle.start.specs.Onward.{enters-low, enters-stray, Onward, onward-first, onward-room, onward-stray, onward-done, onward-then, onward-more}
 
 -- ---- atoms turned one after the other
 
@@ -75,11 +78,6 @@ module _ (T : Tables) (J : Interpretation) where
 
 -- ---- a word's places
 
--- a place of word i in a set
-place-member : (ws : List ℕ) (i k : ℕ) → k < 32 → member 32 ws (i * 32 + k) ≡ bit (getD ws i 0) k
-unfolding member
-place-member ws i k l = ap₂ (λ q r. bit (getD ws q 0) r) (digits-div i l) (digits-mod i l)
-
 not-within : (n : ℕ) (I : Interpretation) → Within n I → (j : ℕ) → n ≤ j → I j ≡ false
 not-within n I w j l = go (I j) refl
   where
@@ -93,7 +91,7 @@ half-place new n i k x w m q l =
     (λ b. member-below (member 64 new) n (i * 32 + k) b)
     (λ b. member-above (member 64 new) n (i * 32 + k) b ∙ sym (not-within n (member 64 new) w (i * 32 + k) b))
     (below-or (i * 32 + k) n))
-    ∙ place-member (setOf (member 64 new) n) i k l
+    ∙ place-member 32 (setOf (member 64 new) n) i k l
     ∙ ap (λ y. bit y k) (ap (λ ws. getD ws i 0) (sym (halves new n w)) ∙ tabulate-at (words32 n) (half new) 0 i m ∙ sym q)
 
 -- ---- the loop
@@ -122,11 +120,6 @@ module _ (T : Tables) (new : List ℕ) (ws : List ℕ) where
   pub record Starting (mid : List ℕ) (less i : ℕ) : Type 0 where
     pub onward : Onward T ws whole lowest mid (allTurned T J (later i) (ofWords T mid)) (leastNode T less (later i))
     pub same : (j : ℕ) → i * 32 ≤ j → present (ofWords T mid) j ≡ present e j
-
-  -- what a call over some words answers and leaves: those below i are turned, or a 17
-  unfoldable pub Continued : Entered → List ℕ → ℕ → Type 0
-  Continued (Low less) mid i = Starting mid less i
-  Continued Stray mid i = Enters T ws whole lowest Stray mid
 
   module _ (room : used T ≤ length ws) (wn : Within (atomCount T) (member 64 new)) (wk : Within (atomCount T) (present e)) where
     differ-within : Within (atomCount T) D
@@ -170,12 +163,12 @@ module _ (T : Tables) (new : List ℕ) (ws : List ℕ) where
         let from : (i + n) * 32 ≡ i * 32 + n * 32 = omega arith in
         rw (upto, from, places-split D (i * 32) (n * 32) ((words32 (atomCount T) - (i + n)) * 32), places-none D (i * 32) (n * 32) (λ a b c. alike a b (omega arith)))
 
-    pub starting-skip : (mid : List ℕ) (less i n : ℕ) → Starting mid less i → i + n ≤ words32 (atomCount T) → ((a : ℕ) → i * 32 ≤ a → a < (i + n) * 32 → D a ≡ false) → Starting mid less (i + n)
+    starting-skip : (mid : List ℕ) (less i n : ℕ) → Starting mid less i → i + n ≤ words32 (atomCount T) → ((a : ℕ) → i * 32 ≤ a → a < (i + n) * 32 → D a ≡ false) → Starting mid less (i + n)
     starting-skip mid less i n s l alike =
         record { onward = rw (← skipped i n l alike) (s .onward); same = λ j b. s .same j (omega arith) }
 
     -- a word that stands as the new one has it
-    pub same-word : (mid : List ℕ) (less i : ℕ) → Starting mid less i → (q : ℕ) → i ≤ q → q < words32 (atomCount T) → getD mid (candidateStart T + q) 0 ≡ half new q
+    same-word : (mid : List ℕ) (less i : ℕ) → Starting mid less i → (q : ℕ) → i ≤ q → q < words32 (atomCount T) → getD mid (candidateStart T + q) 0 ≡ half new q
         → (a : ℕ) → q * 32 ≤ a → a < q * 32 + 32 → D a ≡ false
     same-word mid less i s q b l h a x y =
         let middle : used T ≤ length mid = onward-room T ws whole lowest room mid (allTurned T J (later i) (ofWords T mid)) (leastNode T less (later i)) (s .onward) in
@@ -184,12 +177,22 @@ module _ (T : Tables) (new : List ℕ) (ws : List ℕ) where
         let below : k < 32 = omega arith in
         ap (λ z. unlike z (member 64 new a)) (sym (s .same a (omega arith)))
         ∙ ap (λ z. unlike (present (ofWords T mid) z) (member 64 new z)) place
-        ∙ ap₂ unlike (place-member (ofWords T mid .candidate) q k below ∙ ap (λ w. bit w k) (sym (get-candidate T mid middle q l) ∙ h)) (half-place new (atomCount T) q k (half new q) wn l refl below)
+        ∙ ap₂ unlike (kept-place T mid middle q k l below ∙ ap (λ w. bit w k) h) (half-place new (atomCount T) q k (half new q) wn l refl below)
         ∙ alike (bit (half new q) k)
       where
         alike : (b : Bool) → unlike b b ≡ false
         alike true = refl
         alike false = refl
+
+    -- pairs that are not marked, from pair p to the next mark or the last word
+    pub starting-marked : (mid : List ℕ) (less : ℕ) (marks : List ℕ) (p i j : ℕ) → i ≡ min (2 * p) (words32 (atomCount T)) → Starting mid less i
+        → Upto (candidateStart T) ws new (words32 (atomCount T)) marks → j ≡ next 64 marks p → Starting mid less (min (2 * j) (words32 (atomCount T)))
+    starting-marked mid less marks p i j o s marked q =
+        let from : p ≤ j = rw q (next-is 64 marks p .from) in
+        let upto : min (2 * j) (words32 (atomCount T)) ≡ i + (min (2 * j) (words32 (atomCount T)) - i) = omega arith in
+        rw upto (starting-skip mid less i (min (2 * j) (words32 (atomCount T)) - i) s (omega arith) (λ a x y.
+        same-word ws (nodeCount T) 0 starting-first (a / 32) (omega arith) (omega arith)
+        (marked (a / 32) (omega arith) (next-is 64 marks p .before (a / 32 / 2) (omega arith) (rw (← q) (omega arith)))) a (omega arith) (omega arith)))
 
     module _ (mid : List ℕ) (less i : ℕ) (s : Starting mid less i) where
       pub starting-done : i ≡ words32 (atomCount T) → Enters T ws whole lowest (Low less) mid
@@ -198,55 +201,76 @@ module _ (T : Tables) (new : List ℕ) (ws : List ℕ) where
           onward-done T ws whole lowest room mid (allTurned T J (later i) (ofWords T mid)) (leastNode T less (later i)) (s .onward) (Low less)
           (ap (λ xs. allTurned T J xs (ofWords T mid)) end ∙ turned-none T J (ofWords T mid)) (ap Low (sym (lowest-none T J less) ∙ ap (leastNode T less) (sym end)))
 
-      module _ (l : i < words32 (atomCount T)) (x : ℕ) (q : x ≡ half new i) where
-        middle : used T ≤ length mid
-        middle = onward-room T ws whole lowest room mid (allTurned T J (later i) (ofWords T mid)) (leastNode T less (later i)) (s .onward)
+      middle : used T ≤ length mid
+      middle = onward-room T ws whole lowest room mid (allTurned T J (later i) (ofWords T mid)) (leastNode T less (later i)) (s .onward)
 
+      -- the next two words
+      module _ (j : ℕ) (p : i ≡ 2 * j) (l : 2 * j + 1 < words32 (atomCount T)) where
+        -- the changed atoms of pair j
+        abbrev here : List ℕ
+        here = places (λ a. unlike (present (ofWords T mid) a) (member 64 new a)) (j * 64) 64
+
+        pub starting-within : (k : ℕ) → k < 64 → unlike (present (ofWords T mid) (j * 64 + k)) (bit (getD new j 0) k) ≡ true → j * 64 + k < atomCount T
+        starting-within k b h =
+            differ-within (j * 64 + k) (ap₂ unlike (sym (s .same (j * 64 + k) (omega arith))) (place-member 64 new j k b) ∙ h)
+
+        as-before : here ≡ places D (j * 64) 64
+        as-before = places-agree (λ a. unlike (present (ofWords T mid) a) (member 64 new a)) D (j * 64) 64 (λ a b c. ap (λ q. unlike q (member 64 new a)) (s .same a (omega arith)))
+
+        split : later i ≡ here ++ later (i + 2)
+        unfolding later
+        split =
+            let from : i * 32 ≡ j * 64 = omega arith in
+            let upto : (words32 (atomCount T) - i) * 32 ≡ 64 + (words32 (atomCount T) - (i + 2)) * 32 = omega arith in
+            let behind : (i + 2) * 32 ≡ j * 64 + 64 = omega arith in
+            rw (from, upto, behind, as-before) (places-split D (j * 64) 64 ((words32 (atomCount T) - (i + 2)) * 32))
+
+        go-on : allTurned T J (later i) (ofWords T mid) ≡ andThen (allTurned T J here (ofWords T mid)) (allTurned T J (later (i + 2)))
+        go-on = ap (λ xs. allTurned T J xs (ofWords T mid)) split ∙ turned-append T J here (later (i + 2)) (ofWords T mid)
+
+        module _ (r : Entered) (after : List ℕ) (h : Enters T mid (allTurned T J here (ofWords T mid)) (leastNode T less here) r after) where
+          pub starting-stray : r ≡ Stray → Enters T ws whole lowest Stray after
+          starting-stray q =
+              let f = enters-stray T mid (allTurned T J here (ofWords T mid)) (leastNode T less here) r after h q in
+              onward-stray T ws whole lowest room mid (allTurned T J (later i) (ofWords T mid)) (leastNode T less (later i)) (s .onward) after Stray
+              (go-on ∙ ap (λ o. andThen o (allTurned T J (later (i + 2)))) (f .0)) (f .1) refl
+
+          pub starting-more : (m : ℕ) → r ≡ Low m → Starting after m (i + 2)
+          starting-more m q =
+              let f = enters-low T mid (allTurned T J here (ofWords T mid)) (leastNode T less here) r after m h q in
+              let fits : Fits T (ofWords T mid) = fits-of T mid middle in
+              let g : Fits T (f .0) = turned-fits T J here (ofWords T mid) (f .0) (f .1) fits in
+              let holds : ofWords T after ≡ f .0 = ap (ofWords T) (f .2) ∙ of-written T mid middle (f .0) g in
+              record {
+                onward = onward-more T ws whole lowest room mid (allTurned T J (later i) (ofWords T mid)) (leastNode T less (later i)) (s .onward)
+                    (allTurned T J here (ofWords T mid)) (allTurned T J (later (i + 2))) (f .0) after (leastNode T m (later (i + 2))) go-on (f .1) g (f .2)
+                    (ap (λ n. leastNode T n (later (i + 2))) (f .3) ∙ sym (lowest-append T J less here (later (i + 2))) ∙ ap (leastNode T less) (sym split));
+                same = λ a b. ap (λ d. present d a) holds
+                    ∙ turned-behind T J D differ-within 64 (j * 64) (ofWords T mid) (f .0) fits (ap (λ xs. allTurned T J xs (ofWords T mid)) (sym as-before) ∙ f .1) a (omega arith)
+                    ∙ s .same a (omega arith);
+              }
+
+      -- the last word, if the number of words is odd
+      module _ (l : i + 1 ≡ words32 (atomCount T)) (x : ℕ) (q : x ≡ half new i) where
         abbrev y : ℕ
         y = bitXor (getD mid (candidateStart T + i) 0) x
 
         -- the places at which the words differ are atoms
-        pub starting-within : (k : ℕ) → k < 32 → bit y k ≡ true → i * 32 + k < atomCount T
-        starting-within k b h =
+        pub last-within : (k : ℕ) → k < 32 → bit y k ≡ true → i * 32 + k < atomCount T
+        last-within k b h =
             differ-within (i * 32 + k) (ap₂ unlike
-            (sym (s .same (i * 32 + k) (omega arith)) ∙ place-member (ofWords T mid .candidate) i k b ∙ ap (λ w. bit w k) (sym (get-candidate T mid middle i l)))
-            (half-place new (atomCount T) i k x wn l q b)
+            (sym (s .same (i * 32 + k) (omega arith)) ∙ kept-place T mid middle i k (omega arith) b)
+            (half-place new (atomCount T) i k x wn (omega arith) q b)
             ∙ sym (bit-xor (getD mid (candidateStart T + i) 0) x k) ∙ h)
 
-        here : wordAtoms i y ≡ places D (i * 32) 32
-        here =
-            ap₂ (λ w v. wordAtoms i (bitXor w v)) (get-candidate T mid middle i l) q
-            ∙ sym (word-places (ofWords T mid .candidate) new i)
-            ∙ places-agree (λ a. unlike (present (ofWords T mid) a) (member 64 new a)) D (i * 32) 32 (λ a b c. ap (λ p. unlike p (member 64 new a)) (s .same a b))
-
-        split : later i ≡ wordAtoms i y ++ later (i + 1)
+        all : later i ≡ wordAtoms 32 i y
         unfolding later
-        split =
-            let upto : (words32 (atomCount T) - i) * 32 ≡ 32 + (words32 (atomCount T) - (i + 1)) * 32 = omega arith in
-            let from : (i + 1) * 32 ≡ i * 32 + 32 = omega arith in
-            rw (upto, from, here) (places-split D (i * 32) 32 ((words32 (atomCount T) - (i + 1)) * 32))
+        all =
+            let upto : (words32 (atomCount T) - i) * 32 ≡ 32 = omega arith in
+            rw upto (sym (ap₂ (λ w v. wordAtoms 32 i (bitXor w v)) (get-candidate T mid middle i (omega arith)) q
+            ∙ sym (word-places (ofWords T mid .candidate) new i)
+            ∙ places-agree (λ a. unlike (present (ofWords T mid) a) (member 64 new a)) D (i * 32) 32 (λ a b c. ap (λ p. unlike p (member 64 new a)) (s .same a b))))
 
-        go-on : allTurned T J (later i) (ofWords T mid) ≡ andThen (allTurned T J (wordAtoms i y) (ofWords T mid)) (allTurned T J (later (i + 1)))
-        go-on = ap (λ xs. allTurned T J xs (ofWords T mid)) split ∙ turned-append T J (wordAtoms i y) (later (i + 1)) (ofWords T mid)
-
-        module _ (r : Entered) (after : List ℕ) (h : Enters T mid (allTurned T J (wordAtoms i y) (ofWords T mid)) (leastNode T less (wordAtoms i y)) r after) where
-          pub starting-stray : r ≡ Stray → Enters T ws whole lowest Stray after
-          starting-stray p =
-              let f = enters-stray T mid (allTurned T J (wordAtoms i y) (ofWords T mid)) (leastNode T less (wordAtoms i y)) r after h p in
-              onward-stray T ws whole lowest room mid (allTurned T J (later i) (ofWords T mid)) (leastNode T less (later i)) (s .onward) after Stray
-              (go-on ∙ ap (λ o. andThen o (allTurned T J (later (i + 1)))) (f .0)) (f .1) refl
-
-          pub starting-more : (m : ℕ) → r ≡ Low m → Starting after m (i + 1)
-          starting-more m p =
-              let f = enters-low T mid (allTurned T J (wordAtoms i y) (ofWords T mid)) (leastNode T less (wordAtoms i y)) r after m h p in
-              let fits : Fits T (ofWords T mid) = fits-of T mid middle in
-              let g : Fits T (f .0) = turned-fits T J (wordAtoms i y) (ofWords T mid) (f .0) (f .1) fits in
-              let holds : ofWords T after ≡ f .0 = ap (ofWords T) (f .2) ∙ of-written T mid middle (f .0) g in
-              record {
-                onward = onward-more T ws whole lowest room mid (allTurned T J (later i) (ofWords T mid)) (leastNode T less (later i)) (s .onward)
-                    (allTurned T J (wordAtoms i y) (ofWords T mid)) (allTurned T J (later (i + 1))) (f .0) after (leastNode T m (later (i + 1))) go-on (f .1) g (f .2)
-                    (ap (λ n. leastNode T n (later (i + 1))) (f .3) ∙ sym (lowest-append T J less (wordAtoms i y) (later (i + 1))) ∙ ap (leastNode T less) (sym split));
-                same = λ j b. ap (λ d. present d j) holds
-                    ∙ turned-behind T J D differ-within 32 (i * 32) (ofWords T mid) (f .0) fits (ap (λ xs. allTurned T J xs (ofWords T mid)) (sym here) ∙ f .1) j (omega arith)
-                    ∙ s .same j (omega arith);
-              }
+        pub last-done : (r : Entered) (after : List ℕ) → Enters T mid (allTurned T J (wordAtoms 32 i y) (ofWords T mid)) (leastNode T less (wordAtoms 32 i y)) r after → Enters T ws whole lowest r after
+        last-done r after h =
+            onward-then T ws whole lowest room mid (allTurned T J (later i) (ofWords T mid)) (leastNode T less (later i)) (s .onward) r after (rw all h)

@@ -29,33 +29,33 @@ use Rattle.start.specs.declared.Entered.the-variants.{Low, Stray}
 use Rattle.start.specs.Enters.{Enters}
 use Rattle.start.specs.Onward.{enters-low, enters-stray, Onward, onward-first, onward-fits, onward-stray, onward-done, onward-more}
 
--- of word i, those at the set places of x
-abbrev pub wordAtoms : ℕ → ℕ → List ℕ
-wordAtoms i x = map (λ k. i * 32 + k) (places (bit x) 0 32)
+-- of word i, of width w, those at the set places of x
+abbrev pub wordAtoms : ℕ → ℕ → ℕ → List ℕ
+wordAtoms w i x = map (λ k. i * w + k) (places (bit x) 0 w)
 
-module _ (x : ℕ) (small : x < 2 ^ 32) (ne : x ≡ 0 → ⊥) where
+module _ (w x : ℕ) (small : x < 2 ^ w) (ne : x ≡ 0 → ⊥) where
   abbrev t : ℕ
-  t = trailingZeros 32 x
+  t = trailingZeros w x
 
   abbrev other : ℕ
-  other = bitXor x ((1 * 2 ^ t) % 2 ^ 32)
+  other = bitXor x ((1 * 2 ^ t) % 2 ^ w)
 
-  place-fits : t < 32
-  place-fits = trailing-below 32 32 x (omega arith) small (omega arith)
+  place-fits : t < w
+  place-fits = trailing-below w w x (omega arith) small (omega arith)
 
   place-set : bit x t ≡ true
-  place-set = trailing-set 32 x (omega arith) small
+  place-set = trailing-set w x (omega arith) small
 
-  one : (1 * 2 ^ t) % 2 ^ 32 ≡ 2 ^ t
-  one = one-shift 32 t place-fits
+  one : (1 * 2 ^ t) % 2 ^ w ≡ 2 ^ t
+  one = one-shift w t place-fits
 
-  other-small : other < 2 ^ 32
-  other-small = rw one (xor-lt 32 x (2 ^ t) small (pow-lt place-fits))
+  other-small : other < 2 ^ w
+  other-small = rw one (xor-lt w x (2 ^ t) small (pow-lt place-fits))
 
-  split : places (bit x) 0 32 ≡ t ∷ places (bit other) 0 32
-  split = rw one (places-trailing 32 x (omega arith) small)
+  split : places (bit x) 0 w ≡ t ∷ places (bit other) 0 w
+  split = rw one (places-trailing w x (omega arith) small)
 
-  other-less : count (bit other) 0 32 < count (bit x) 0 32
+  other-less : count (bit other) 0 w < count (bit x) 0 w
   unfolding count
   other-less = omega (arith, ap length split)
 
@@ -68,34 +68,34 @@ module _ (x : ℕ) (small : x < 2 ^ 32) (ne : x ≡ 0 → ⊥) where
           let q : eqb t k ≡ true = sym (bit-power t k) ∙ sym (ap (λ b. unlike b (bit (2 ^ t) k)) e) ∙ sym (bit-xor x (2 ^ t) k) ∙ h in
           ap (bit x) (sym (eqb-true t k q)) ∙ place-set
 
-  atoms-first : (i : ℕ) → wordAtoms i x ≡ (i * 32 + t) ∷ wordAtoms i other
-  atoms-first i = ap (map (λ k. i * 32 + k)) split
+  atoms-first : (i : ℕ) → wordAtoms w i x ≡ (i * w + t) ∷ wordAtoms w i other
+  atoms-first i = ap (map (λ k. i * w + k)) split
 
--- x is a word, and its places are atoms of word i
-pub record Left (atoms i x : ℕ) : Type 0 where
-  pub small : x < 2 ^ 32
-  pub within : (k : ℕ) → k < 32 → bit x k ≡ true → i * 32 + k < atoms
+-- x is a word of width w, and its places are atoms of word i
+pub record Left (w atoms i x : ℕ) : Type 0 where
+  pub small : x < 2 ^ w
+  pub within : (k : ℕ) → k < w → bit x k ≡ true → i * w + k < atoms
 
-module _ (atoms i x : ℕ) (l : Left atoms i x) (ne : x ≡ 0 → ⊥) where
-  pub left-place : trailingZeros 32 x < 32
-  left-place = place-fits x (l .small) ne
+module _ (w atoms i x : ℕ) (l : Left w atoms i x) (ne : x ≡ 0 → ⊥) where
+  pub left-place : trailingZeros w x < w
+  left-place = place-fits w x (l .small) ne
 
-  pub left-atom : i * 32 + trailingZeros 32 x < atoms
-  left-atom = l .within (trailingZeros 32 x) left-place (place-set x (l .small) ne)
+  pub left-atom : i * w + trailingZeros w x < atoms
+  left-atom = l .within (trailingZeros w x) left-place (place-set w x (l .small) ne)
 
-  pub left-other : Left atoms i (bitXor x ((1 * 2 ^ trailingZeros 32 x) % 2 ^ 32))
-  left-other = record { small = other-small x (l .small) ne; within = λ k a h. l .within k a (other-sub x (l .small) ne k h) }
+  pub left-other : Left w atoms i (bitXor x ((1 * 2 ^ trailingZeros w x) % 2 ^ w))
+  left-other = record { small = other-small w x (l .small) ne; within = λ k a h. l .within k a (other-sub w x (l .small) ne k h) }
 
-  pub left-less : count (bit (bitXor x ((1 * 2 ^ trailingZeros 32 x) % 2 ^ 32))) 0 32 < count (bit x) 0 32
-  left-less = other-less x (l .small) ne
+  pub left-less : count (bit (bitXor x ((1 * 2 ^ trailingZeros w x) % 2 ^ w))) 0 w < count (bit x) 0 w
+  left-less = other-less w x (l .small) ne
 
 -- the place as the code reads it in the new word
 pub place-read : (new t : ℕ) (b : Bool) → b ≡ bit new t → b ≡ eqb (new / 2 ^ t % 2) 1
 unfolding bit
 place-read new t b e = e
 
-atoms-none : (i : ℕ) → wordAtoms i 0 ≡ []
-atoms-none i = ap (map (λ k. i * 32 + k)) (places-none (bit 0) 0 32 (λ k a b. bit-zero k))
+atoms-none : (w i : ℕ) → wordAtoms w i 0 ≡ []
+atoms-none w i = ap (map (λ k. i * w + k)) (places-none (bit 0) 0 w (λ k a b. bit-zero k))
 
 module _ (T : Tables) (J : Interpretation) where
   pub turned-none : (e : Evaluation) → allTurned T J [] e ≡ some e
@@ -110,50 +110,50 @@ module _ (T : Tables) (J : Interpretation) where
   unfolding leastNode
   lowest-none n = refl
 
-  module _ (ws : List ℕ) (i y low : ℕ) where
+  module _ (w : ℕ) (ws : List ℕ) (i y low : ℕ) where
     abbrev whole : Option Evaluation
-    whole = allTurned T J (wordAtoms i y) (ofWords T ws)
+    whole = allTurned T J (wordAtoms w i y) (ofWords T ws)
 
     abbrev lowest : ℕ
-    lowest = leastNode T low (wordAtoms i y)
+    lowest = leastNode T low (wordAtoms w i y)
 
     -- of the places of y those of x are left
     abbrev pub Turning : List ℕ → ℕ → ℕ → Type 0
-    Turning mid less x = Onward T ws whole lowest mid (allTurned T J (wordAtoms i x) (ofWords T mid)) (leastNode T less (wordAtoms i x))
+    Turning mid less x = Onward T ws whole lowest mid (allTurned T J (wordAtoms w i x) (ofWords T mid)) (leastNode T less (wordAtoms w i x))
 
     module _ (room : used T ≤ length ws) where
       pub turning-first : Turning ws low y
       turning-first = onward-first T ws whole lowest room whole lowest refl refl
 
-      module _ (mid : List ℕ) (less x : ℕ) (w : Turning mid less x) where
+      module _ (mid : List ℕ) (less x : ℕ) (o : Turning mid less x) where
         abbrev rest : Option Evaluation
-        rest = allTurned T J (wordAtoms i x) (ofWords T mid)
+        rest = allTurned T J (wordAtoms w i x) (ofWords T mid)
 
         pub turning-done : x ≡ 0 → Enters T ws whole lowest (Low less) mid
         turning-done z =
-            onward-done T ws whole lowest room mid rest (leastNode T less (wordAtoms i x)) w (Low less)
-            (rw (z, atoms-none i) (turned-none (ofWords T mid))) (rw (z, atoms-none i, lowest-none less))
+            onward-done T ws whole lowest room mid rest (leastNode T less (wordAtoms w i x)) o (Low less)
+            (rw (z, atoms-none w i) (turned-none (ofWords T mid))) (rw (z, atoms-none w i, lowest-none less))
 
-        module _ (small : x < 2 ^ 32) (ne : x ≡ 0 → ⊥) (r : Entered) (after : List ℕ)
-            (h : Enters T mid (atomTurned T J (i * 32 + trailingZeros 32 x) (ofWords T mid)) (least less (orNone (atomNodesAt T (i * 32 + trailingZeros 32 x)))) r after) where
+        module _ (small : x < 2 ^ w) (ne : x ≡ 0 → ⊥) (r : Entered) (after : List ℕ)
+            (h : Enters T mid (atomTurned T J (i * w + trailingZeros w x) (ofWords T mid)) (least less (orNone (atomNodesAt T (i * w + trailingZeros w x)))) r after) where
           abbrev a : ℕ
-          a = i * 32 + trailingZeros 32 x
+          a = i * w + trailingZeros w x
 
           abbrev y' : ℕ
-          y' = bitXor x ((1 * 2 ^ trailingZeros 32 x) % 2 ^ 32)
+          y' = bitXor x ((1 * 2 ^ trailingZeros w x) % 2 ^ w)
 
-          go-on : rest ≡ andThen (atomTurned T J a (ofWords T mid)) (allTurned T J (wordAtoms i y'))
-          go-on = ap (λ l. allTurned T J l (ofWords T mid)) (atoms-first x small ne i) ∙ turned-more a (wordAtoms i y') (ofWords T mid)
+          go-on : rest ≡ andThen (atomTurned T J a (ofWords T mid)) (allTurned T J (wordAtoms w i y'))
+          go-on = ap (λ l. allTurned T J l (ofWords T mid)) (atoms-first w x small ne i) ∙ turned-more a (wordAtoms w i y') (ofWords T mid)
 
           pub turning-stray : r ≡ Stray → Enters T ws whole lowest Stray after
           turning-stray s =
               let f = enters-stray T mid (atomTurned T J a (ofWords T mid)) (least less (orNone (atomNodesAt T a))) r after h s in
-              onward-stray T ws whole lowest room mid rest (leastNode T less (wordAtoms i x)) w after Stray (go-on ∙ ap (λ o. andThen o (allTurned T J (wordAtoms i y'))) (f .0)) (f .1) refl
+              onward-stray T ws whole lowest room mid rest (leastNode T less (wordAtoms w i x)) o after Stray (go-on ∙ ap (λ o. andThen o (allTurned T J (wordAtoms w i y'))) (f .0)) (f .1) refl
 
           pub turning-more : (m : ℕ) → r ≡ Low m → Turning after m y'
           turning-more m s =
               let f = enters-low T mid (atomTurned T J a (ofWords T mid)) (least less (orNone (atomNodesAt T a))) r after m h s in
-              onward-more T ws whole lowest room mid rest (leastNode T less (wordAtoms i x)) w (atomTurned T J a (ofWords T mid)) (allTurned T J (wordAtoms i y')) (f .0) after
-              (leastNode T m (wordAtoms i y')) go-on (f .1)
-              (atom-fits T J a (ofWords T mid) (f .0) (f .1) (onward-fits T ws whole lowest room mid rest (leastNode T less (wordAtoms i x)) w)) (f .2)
-              (ap (λ n. leastNode T n (wordAtoms i y')) (f .3) ∙ sym (least-node-more T less a (wordAtoms i y')) ∙ ap (leastNode T less) (sym (atoms-first x small ne i)))
+              onward-more T ws whole lowest room mid rest (leastNode T less (wordAtoms w i x)) o (atomTurned T J a (ofWords T mid)) (allTurned T J (wordAtoms w i y')) (f .0) after
+              (leastNode T m (wordAtoms w i y')) go-on (f .1)
+              (atom-fits T J a (ofWords T mid) (f .0) (f .1) (onward-fits T ws whole lowest room mid rest (leastNode T less (wordAtoms w i x)) o)) (f .2)
+              (ap (λ n. leastNode T n (wordAtoms w i y')) (f .3) ∙ sym (least-node-more T less a (wordAtoms w i y')) ∙ ap (leastNode T less) (sym (atoms-first w x small ne i)))

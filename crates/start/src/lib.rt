@@ -10,6 +10,7 @@ ghost use Rattle.formula.specs.Satisfaction.{Interpretation};
 ghost use Rattle.formula.specs.Passes.{Within};
 ghost use Rattle.theory.specs.Limits.{Limited};
 ghost use Rattle.words.specs.Bit.{bit};
+ghost use Rattle.words.specs.Changed.{unlike};
 ghost use Rattle.words.specs.Sets.{member};
 ghost use Rattle.readers.specs.ReaderTable.{readerWords};
 ghost use Rattle.kept.specs.SetOf.{words32, words64};
@@ -21,7 +22,6 @@ ghost use Rattle.kept_laws.specs.Given.{candidateAt, usedBy, sized, listed};
 ghost use Rattle.kept_laws.specs.StartChanged.{allTurned};
 ghost use Rattle.difference.specs.Marks.{Marked};
 ghost use Rattle.start.specs.Enters.{Enters};
-ghost use Rattle.start.specs.Goes.{Begun, Goes};
 use theory::Counts;
 
 // The lowest node entered, or the number that was given; Stray is refusal 17.
@@ -113,24 +113,27 @@ fn turn_word(
     Entered::Low(lowest)
 }
 
-// The atoms of words `first` to `end` become as the new candidate has them.
-fn turn_words(
+// The atoms of words 2 j and 2 j + 1, taken as one, become as `new` has them: one loop for both, as one of the two often has no change.
+fn turn_pair(
     counts: Counts,
-    candidate: &[u64],
     readers: &[u64],
     kept: &mut [u32],
-    first: usize,
-    end: usize,
+    j: usize,
+    new: u64,
     low: usize,
 ) -> Entered
-    requires { ⌜ Limited counts × (length (now candidate) ≡ words64 (counts .atoms)) × (readerWords counts ≤ length (now readers)) × (usedBy counts ≤ length (now kept)) × (first ≤ end) × (end ≤ words32 (counts .atoms)) × ((T : Tables) → Begun (listed counts (now readers) T) (now candidate) (now kept) low first) ⌝ }
-    ensures { λ r. ⌜ ((T : Tables) → Goes (listed counts (now (readers .entry)) T) (now (candidate .entry)) (now (kept .entry)) low first r (now (kept .exit)) end) ⌝ }
+    requires { ⌜ Limited counts × (readerWords counts ≤ length (now readers)) × (usedBy counts ≤ length (now kept)) × (2 * j + 1 < words32 (counts .atoms)) ⌝ }
+    requires { ⌜ ((T : Tables) (k : ℕ) → k < 64 → unlike (present (ofWords (listed counts (now readers) T) (now kept)) (j * 64 + k)) (bit new k) ≡ true → j * 64 + k < counts .atoms) ⌝ }
+    ensures { λ r. ⌜ ((T : Tables) (J : Interpretation) → ((k : ℕ) → k < 64 → J (j * 64 + k) ≡ bit new k) → Enters (listed counts (now (readers .entry)) T) (now (kept .entry)) (allTurned (listed counts (now (readers .entry)) T) J (places (λ a. unlike (present (ofWords (listed counts (now (readers .entry)) T) (now (kept .entry))) a) (J a)) (j * 64) 64) (ofWords (listed counts (now (readers .entry)) T) (now (kept .entry)))) (leastNode (listed counts (now (readers .entry)) T) low (places (λ a. unlike (present (ofWords (listed counts (now (readers .entry)) T) (now (kept .entry))) a) (J a)) (j * 64) 64)) r (now (kept .exit))) ⌝ }
 {
+    let n = counts.nodes;
+    let at = 16 + n + (n + 31) / 32 + counts.atoms + 2 * j;
     let mut lowest = low;
-    let mut i = first;
-    while i < end {
-        let word = retained::half_word(candidate, i);
-        match turn_word(counts, readers, kept, i, word, lowest) {
+    let mut x = difference::pair(kept, at) ^ new;
+    while x != 0 {
+        let k = u64::trailing_zeros(x);
+        let a = j * 64 + k as usize;
+        match turn_atom(counts, readers, kept, a, (new >> k) % 2 == 1, lowest) {
             Entered::Low(m) => {
                 lowest = m;
             }
@@ -138,7 +141,7 @@ fn turn_words(
                 return Entered::Stray;
             }
         }
-        i += 1;
+        x = x ^ (1u64 << k);
     }
     Entered::Low(lowest)
 }
@@ -155,12 +158,11 @@ pub fn start(
     requires { ⌜ Within (counts .atoms) (member 64 (now candidate)) × ((T : Tables) → Within (counts .atoms) (present (ofWords (sized counts T) (now kept)))) ⌝ }
     ensures { λ r. ⌜ ((T : Tables) → Enters (listed counts (now (readers .entry)) T) (now (kept .entry)) (walkStart (listed counts (now (readers .entry)) T) (member 64 (now (candidate .entry))) (counts .atoms) (ofWords (listed counts (now (readers .entry)) T) (now (kept .entry)))) (lowestEntered (listed counts (now (readers .entry)) T) (member 64 (now (candidate .entry))) (ofWords (listed counts (now (readers .entry)) T) (now (kept .entry)))) r (now (kept .exit))) ⌝ }
 {
-    let words = (counts.atoms + 31) / 32;
+    let pairs = (counts.atoms + 31) / 32 / 2;
     let mut lowest = counts.nodes;
     let mut j = words::set64::next(marks, 0);
-    while j < candidate.len() {
-        let end = difference::smaller(2 * j + 2, words);
-        match turn_words(counts, candidate, readers, kept, 2 * j, end, lowest) {
+    while j < pairs {
+        match turn_pair(counts, readers, kept, j, candidate[j], lowest) {
             Entered::Low(m) => {
                 lowest = m;
             }
@@ -169,6 +171,10 @@ pub fn start(
             }
         }
         j = words::set64::next(marks, j + 1);
+    }
+    if j < candidate.len() {
+        let word = retained::half_word(candidate, 2 * pairs);
+        return turn_word(counts, readers, kept, 2 * pairs, word, lowest);
     }
     Entered::Low(lowest)
 }

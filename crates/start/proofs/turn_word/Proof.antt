@@ -18,8 +18,8 @@ use Rattle.start.proofs.turn_atom.Reads as turn-atom-reads
 
 abbrev Inv-loop : tie.InvT-loop
 Inv-loop counts readers kept₀ i new low n at lowest₀ x₀ kept lowest x =
-    ((T : Tables) (J : Interpretation) → ((k : ℕ) → k < 32 → J (i * 32 + k) ≡ bit new k) → Turning (listed counts readers T) J kept₀ i x₀ low kept lowest x)
-    × Left (counts .atoms) i x × (length kept ≡ length kept₀)
+    ((T : Tables) (J : Interpretation) → ((k : ℕ) → k < 32 → J (i * 32 + k) ≡ bit new k) → Turning (listed counts readers T) J 32 kept₀ i x₀ low kept lowest x)
+    × Left 32 (counts .atoms) i x × (length kept ≡ length kept₀)
 
 abbrev μ-loop : tie.MeasureT-loop
 μ-loop counts readers kept₀ i new low n at lowest₀ x₀ kept lowest x = count (bit x) 0 32
@@ -54,7 +54,7 @@ slice-read-x c = search needs
 
 -- src/lib.rt:100:5
 loop-holds : tie.Need-loop-holds Inv-loop μ-loop
-loop-holds c = (λ T J same. turning-first (listed (c .before .before .before .before .args .counts) (c .before .before .before .before .args .readers .now) T) J (c .before .before .before .before .args .kept .now) (c .before .before .before .before .args .i) _ (c .before .before .before .before .args .low) (c .before .before .before .before .pre .0 .2), record { small = xor-lt 32 _ _ (c .slice-known2 .given (candidateAt (c .before .before .before .before .args .counts) + c .before .before .before .before .args .i) .fits) (c .before .before .before .before .fits .new .fits); within = c .before .before .before .before .pre .1 }, refl)
+loop-holds c = (λ T J same. turning-first (listed (c .before .before .before .before .args .counts) (c .before .before .before .before .args .readers .now) T) J 32 (c .before .before .before .before .args .kept .now) (c .before .before .before .before .args .i) _ (c .before .before .before .before .args .low) (c .before .before .before .before .pre .0 .2), record { small = xor-lt 32 _ _ (c .slice-known2 .given (candidateAt (c .before .before .before .before .args .counts) + c .before .before .before .before .args .i) .fits) (c .before .before .before .before .fits .new .fits); within = c .before .before .before .before .pre .1 }, refl)
 
 -- src/lib.rt:102:17
 mul-a : tie.Need-mul-a Inv-loop μ-loop
@@ -62,19 +62,19 @@ mul-a c = search needs
 
 -- src/lib.rt:102:26
 cast-a : tie.Need-cast-a Inv-loop μ-loop
-cast-a c = omega (arith, left-place _ _ _ (c .before .loop .inv .1) (c .loop-test .taken))
+cast-a c = omega (arith, left-place _ _ _ _ (c .before .loop .inv .1) (c .loop-test .taken))
 
 -- src/lib.rt:102:17
 add-a : tie.Need-add-a Inv-loop μ-loop
-add-a c = omega (arith, left-atom _ _ _ (c .before .loop .inv .1) (c .loop-test .taken), c .before .before .before .before .before .before .pre .0 .0 .atoms)
+add-a c = omega (arith, left-atom _ _ _ _ (c .before .loop .inv .1) (c .loop-test .taken), c .before .before .before .before .before .before .pre .0 .0 .atoms)
 
 -- src/lib.rt:103:52
 shr-turn-atom : tie.Need-shr-turn-atom Inv-loop μ-loop
-shr-turn-atom c = left-place _ _ _ (c .before .before .loop .inv .1) (c .before .loop-test .taken)
+shr-turn-atom c = left-place _ _ _ _ (c .before .before .loop .inv .1) (c .before .loop-test .taken)
 
 -- src/lib.rt:103:15
 turn-atom-requires : tie.Need-turn-atom-requires Inv-loop μ-loop
-turn-atom-requires c κs = (c .before .before .before .before .before .before .before .pre .0 .0, c .before .before .before .before .before .before .before .pre .0 .1, omega (arith, c .before .before .before .before .before .before .before .pre .0 .2, c .before .before .loop .inv .2), left-atom _ _ _ (c .before .before .loop .inv .1) (c .before .loop-test .taken))
+turn-atom-requires c κs = (c .before .before .before .before .before .before .before .pre .0 .0, c .before .before .before .before .before .before .before .pre .0 .1, omega (arith, c .before .before .before .before .before .before .before .pre .0 .2, c .before .before .loop .inv .2), left-atom _ _ _ _ (c .before .before .loop .inv .1) (c .before .loop-test .taken))
 
 -- src/lib.rt:104:26
 enum-known-m : tie.Need-enum-known-m Inv-loop μ-loop
@@ -90,19 +90,19 @@ same-length c = search needs
 
 -- src/lib.rt:108:17
 returns : tie.Need-returns Inv-loop μ-loop
-returns c = λ T J same. turning-stray (listed (c .before .before .before .before .before .before .before .before .before .before .before .before .args .counts) (c .before .before .before .before .before .before .before .before .before .before .before .before .args .readers .now) T) J (c .before .before .before .before .before .before .before .before .before .before .before .before .args .kept .now) (c .before .before .before .before .before .before .before .before .before .before .before .before .args .i) _ (c .before .before .before .before .before .before .before .before .before .before .before .before .args .low) (c .before .before .before .before .before .before .before .before .before .before .before .before .pre .0 .2) _ _ _ (c .before .before .before .before .before .before .before .loop .inv .0 T J same) (c .before .before .before .before .before .before .before .loop .inv .1 .small) (c .before .before .before .before .before .before .loop-test .taken) _ _ (c .before .before .before .before .turn-atom .ensures T J (place-read _ _ _ (same _ (left-place _ _ _ (c .before .before .before .before .before .before .before .loop .inv .1) (c .before .before .before .before .before .before .loop-test .taken))))) (c .enum-told .given .1)
+returns c = λ T J same. turning-stray (listed (c .before .before .before .before .before .before .before .before .before .before .before .before .args .counts) (c .before .before .before .before .before .before .before .before .before .before .before .before .args .readers .now) T) J 32 (c .before .before .before .before .before .before .before .before .before .before .before .before .args .kept .now) (c .before .before .before .before .before .before .before .before .before .before .before .before .args .i) _ (c .before .before .before .before .before .before .before .before .before .before .before .before .args .low) (c .before .before .before .before .before .before .before .before .before .before .before .before .pre .0 .2) _ _ _ (c .before .before .before .before .before .before .before .loop .inv .0 T J same) (c .before .before .before .before .before .before .before .loop .inv .1 .small) (c .before .before .before .before .before .before .loop-test .taken) _ _ (c .before .before .before .before .turn-atom .ensures T J (place-read _ _ _ (same _ (left-place _ _ _ _ (c .before .before .before .before .before .before .before .loop .inv .1) (c .before .before .before .before .before .before .loop-test .taken))))) (c .enum-told .given .1)
 
 -- src/lib.rt:111:18
 shl-x : tie.Need-shl-x Inv-loop μ-loop
-shl-x c = left-place _ _ _ (c .before .before .before .before .before .before .before .before .loop .inv .1) (c .before .before .before .before .before .before .before .loop-test .taken)
+shl-x c = left-place _ _ _ _ (c .before .before .before .before .before .before .before .before .loop .inv .1) (c .before .before .before .before .before .before .before .loop-test .taken)
 
 -- src/lib.rt:100:5
 loop-less : tie.Need-loop-less Inv-loop μ-loop
-loop-less c = left-less _ _ _ (c .before .before .before .before .before .before .before .before .loop .inv .1) (c .before .before .before .before .before .before .before .loop-test .taken)
+loop-less c = left-less _ _ _ _ (c .before .before .before .before .before .before .before .before .loop .inv .1) (c .before .before .before .before .before .before .before .loop-test .taken)
 
 -- src/lib.rt:100:5
 loop-again : tie.Need-loop-again Inv-loop μ-loop
-loop-again c = (λ T J same. turning-more (listed (c .before .before .before .before .before .before .before .before .before .before .before .before .before .args .counts) (c .before .before .before .before .before .before .before .before .before .before .before .before .before .args .readers .now) T) J (c .before .before .before .before .before .before .before .before .before .before .before .before .before .args .kept .now) (c .before .before .before .before .before .before .before .before .before .before .before .before .before .args .i) _ (c .before .before .before .before .before .before .before .before .before .before .before .before .before .args .low) (c .before .before .before .before .before .before .before .before .before .before .before .before .before .pre .0 .2) _ _ _ (c .before .before .before .before .before .before .before .before .loop .inv .0 T J same) (c .before .before .before .before .before .before .before .before .loop .inv .1 .small) (c .before .before .before .before .before .before .before .loop-test .taken) _ _ (c .before .before .before .before .before .turn-atom .ensures T J (place-read _ _ _ (same _ (left-place _ _ _ (c .before .before .before .before .before .before .before .before .loop .inv .1) (c .before .before .before .before .before .before .before .loop-test .taken))))) _ (c .before .m .given .1), left-other _ _ _ (c .before .before .before .before .before .before .before .before .loop .inv .1) (c .before .before .before .before .before .before .before .loop-test .taken), c .before .before .before .before .before .turn-atom .kept .1 .1 .0 ∙ c .before .before .before .before .before .before .before .before .loop .inv .2)
+loop-again c = (λ T J same. turning-more (listed (c .before .before .before .before .before .before .before .before .before .before .before .before .before .args .counts) (c .before .before .before .before .before .before .before .before .before .before .before .before .before .args .readers .now) T) J 32 (c .before .before .before .before .before .before .before .before .before .before .before .before .before .args .kept .now) (c .before .before .before .before .before .before .before .before .before .before .before .before .before .args .i) _ (c .before .before .before .before .before .before .before .before .before .before .before .before .before .args .low) (c .before .before .before .before .before .before .before .before .before .before .before .before .before .pre .0 .2) _ _ _ (c .before .before .before .before .before .before .before .before .loop .inv .0 T J same) (c .before .before .before .before .before .before .before .before .loop .inv .1 .small) (c .before .before .before .before .before .before .before .loop-test .taken) _ _ (c .before .before .before .before .before .turn-atom .ensures T J (place-read _ _ _ (same _ (left-place _ _ _ _ (c .before .before .before .before .before .before .before .before .loop .inv .1) (c .before .before .before .before .before .before .before .loop-test .taken))))) _ (c .before .m .given .1), left-other _ _ _ _ (c .before .before .before .before .before .before .before .before .loop .inv .1) (c .before .before .before .before .before .before .before .loop-test .taken), c .before .before .before .before .before .turn-atom .kept .1 .1 .0 ∙ c .before .before .before .before .before .before .before .before .loop .inv .2)
 
 -- src/lib.rt:84:1
 same-length-2 : tie.Need-same-length-2 Inv-loop μ-loop
@@ -110,7 +110,7 @@ same-length-2 c = search needs
 
 -- src/lib.rt:84:1
 returns-2 : tie.Need-returns-2 Inv-loop μ-loop
-returns-2 c = λ T J same. turning-done (listed (c .before .before .before .before .before .before .args .counts) (c .before .before .before .before .before .before .args .readers .now) T) J (c .before .before .before .before .before .before .args .kept .now) (c .before .before .before .before .before .before .args .i) _ (c .before .before .before .before .before .before .args .low) (c .before .before .before .before .before .before .pre .0 .2) _ _ _ (c .before .loop .inv .0 T J same) (c .loop-test .left)
+returns-2 c = λ T J same. turning-done (listed (c .before .before .before .before .before .before .args .counts) (c .before .before .before .before .before .before .args .readers .now) T) J 32 (c .before .before .before .before .before .before .args .kept .now) (c .before .before .before .before .before .before .args .i) _ (c .before .before .before .before .before .before .args .low) (c .before .before .before .before .before .before .pre .0 .2) _ _ _ (c .before .loop .inv .0 T J same) (c .loop-test .left)
 
 pub turn-word-spec : {M : Type 1} → statement M
 turn-word-spec =
