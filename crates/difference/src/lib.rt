@@ -1,7 +1,7 @@
 // How the kept candidate and the new one differ: the first pass of `update` in tight/evaluate.rs.
 ghost use mathlib.Core.Path.{_≡_};
 ghost use mathlib.Core.Bool.{true};
-ghost use Prim.Native.Nat.{_+_, _*_, _/_, _<_, _≤_, min};
+ghost use Prim.Native.Nat.{_+_, _*_, _/_, _<_, _≤_};
 ghost use lib.ListN.{length, getD};
 ghost use Rattle.theory.specs.Limits.{Limited};
 ghost use Rattle.words.specs.Changed.{changed};
@@ -15,13 +15,6 @@ ghost use Rattle.kept_laws.specs.Halves.{half};
 ghost use Rattle.difference.specs.ChangedLaws.{wordChanges};
 ghost use Rattle.difference.specs.Marks.{Same, SameFrom, Upto, Marked};
 use theory::Counts;
-
-// The smaller of two numbers.
-fn smaller(a: usize, b: usize) -> usize
-    ensures { λ r. ⌜ r ≡ min a b ⌝ }
-{
-    if a < b { a } else { b }
-}
 
 // Words i and i + 1 as one.
 pub fn pair(kept: &[u32], i: usize) -> u64
@@ -140,7 +133,7 @@ fn all_changes(candidate: &[u64], kept: &[u32], at: usize, pairs: usize, marks: 
     let mut sum = 0;
     let mut j = 0;
     while j < pairs {
-        let end = smaller(j + 16, pairs);
+        let end = words::smaller(j + 16, pairs);
         sum = sum + block_changes(candidate, kept, at, j, end, marks);
         j = end;
     }

@@ -1,6 +1,6 @@
 // Words lent in slices: read as numbers, and as sets of bits.
 ghost use mathlib.Core.Path.{_≡_};
-ghost use Prim.Native.Nat.{_<_, max};
+ghost use Prim.Native.Nat.{_<_, max, min};
 ghost use lib.ListN.{length, getD, replicate};
 ghost use Rattle.base.specs.Places.{places};
 ghost use Rattle.words.specs.Bit.{bit};
@@ -42,6 +42,13 @@ pub fn greater(a: usize, b: usize) -> usize
     ensures { λ r. ⌜ r ≡ max a b ⌝ }
 {
     if a < b { b } else { a }
+}
+
+// The smaller of two numbers.
+pub fn smaller(a: usize, b: usize) -> usize
+    ensures { λ r. ⌜ r ≡ min a b ⌝ }
+{
+    if a < b { a } else { b }
 }
 
 // The word's set place number i, rising from i = 0, or 64 if there are not so many.

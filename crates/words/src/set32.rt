@@ -1,7 +1,7 @@
 // Sets of numbers in words of 32 bits.
 ghost use mathlib.Core.Path.{_≡_};
 ghost use mathlib.Core.Bool.{true, not};
-ghost use Prim.Native.Nat.{ℕ, _+_, _*_, _/_, _^_, _<_, _≤_, min};
+ghost use Prim.Native.Nat.{ℕ, _+_, _*_, _/_, _^_, _<_, _≤_};
 ghost use lib.ListN.{length, getD};
 ghost use lib.Dec.{eqb};
 ghost use Rattle.base.specs.Places.{lowest};
@@ -49,13 +49,6 @@ pub fn lowest(x: u32) -> u32
     u32::trailing_zeros(x)
 }
 
-// The smaller of two numbers.
-fn smaller(a: usize, b: usize) -> usize
-    ensures { λ r. ⌜ r ≡ min a b ⌝ }
-{
-    if a < b { a } else { b }
-}
-
 // The lowest member from `from` on, or 32 times the number of words if there is none.
 pub fn next(words: &[u32], from: usize) -> usize
     requires { ⌜ from ≤ 32 * length (now words) ⌝ }
@@ -80,7 +73,7 @@ fn next_word(words: &[u32], first: usize) -> usize
     requires { ⌜ 32 * length (now words) < 2 ^ 64 ⌝ }
     ensures { λ r. ⌜ r ≡ next 32 (now (words .entry)) (32 * first) ⌝ }
 {
-    let near = smaller(first + 8, words.len());
+    let near = crate::smaller(first + 8, words.len());
     let mut q = first;
     while q < near {
         let x = words[q];

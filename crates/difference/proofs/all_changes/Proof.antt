@@ -11,7 +11,7 @@ use Rattle.difference.proofs.all_changes.Tie as tie
 use Rattle.difference.proofs.all_changes.Reads as reads
 use Rattle.difference.proofs.all_changes.Lts as lts
 use Rattle.difference.proofs.block_changes.Reads as block-changes-reads
-use Rattle.difference.proofs.smaller.Reads as smaller-reads
+use Rattle.words.proofs.smaller.Reads as smaller-reads
 
 abbrev Inv-loop : tie.InvT-loop
 Inv-loop candidate kept at pairs marks₀ sum₀ j₀ marks sum j =
