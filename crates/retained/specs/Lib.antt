@@ -1,5 +1,6 @@
 pub mod Member
 pub mod Changes
 pub mod MemberLaws
+pub mod TakeOffLaws
 pub mod PresenceLaws
 pub mod SupportLaws

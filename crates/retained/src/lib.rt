@@ -1,9 +1,10 @@
-// Changes of a kept evaluation in its lent words: `queue`, `presence`, `support` and `root` of tight/evaluate.rs. Each answers false where a count would leave its range.
+// Changes of a kept evaluation in its lent words: `queue`, `presence`, `support` and `root` of tight/evaluate.rs. Each that can fail answers false where a count would leave its range.
 ghost use mathlib.Core.Path.{_≡_};
 ghost use mathlib.Core.Bool.{true, false};
-ghost use Prim.Native.Nat.{_+_, _*_, _/_, _<_, _≤_};
-ghost use lib.ListN.{length};
+ghost use Prim.Native.Nat.{_+_, _*_, _/_, _%_, _<_, _≤_};
+ghost use lib.ListN.{length, getD};
 ghost use Rattle.theory.specs.Limits.{Limited};
+ghost use Rattle.words.specs.Bit.{bit};
 ghost use Rattle.kept.specs.CountedSet.{moved};
 ghost use Rattle.kept.specs.Tables.{Tables};
 ghost use Rattle.kept.specs.Layout.{ofWords};
@@ -79,12 +80,14 @@ pub fn queue(counts: Counts, kept: &mut [u32], m: usize) -> bool
     include(kept, 16 + counts.nodes, 4, counts.nodes, m)
 }
 
-// Node m off the worklist.
-pub fn dequeue(counts: Counts, kept: &mut [u32], m: usize) -> bool
-    requires { ⌜ Limited counts × (m < counts .nodes) × (usedBy counts ≤ length (now kept)) ⌝ }
-    ensures { λ r. ⌜ ((T : Tables) → Wrote (sized counts T) (now (kept .entry)) (dequeued (sized counts T) m (ofWords (sized counts T) (now (kept .entry)))) r (now (kept .exit))) ⌝ }
+// Node m, on the worklist, off it.
+pub fn dequeue(counts: Counts, kept: &mut [u32], m: usize)
+    requires { ⌜ Limited counts × (m < counts .nodes) × (usedBy counts ≤ length (now kept)) × (bit (getD (now kept) (16 + counts .nodes + m / 32) 0) (m % 32) ≡ true) × (0 < getD (now kept) 4 0) ⌝ }
+    ensures { λ _. ⌜ ((T : Tables) → Wrote (sized counts T) (now (kept .entry)) (dequeued (sized counts T) m (ofWords (sized counts T) (now (kept .entry)))) true (now (kept .exit))) ⌝ }
 {
-    exclude(kept, 16 + counts.nodes, 4, counts.nodes, m)
+    let q = 16 + counts.nodes + m / 32;
+    kept[q] = kept[q] ^ (1u32 << (m % 32));
+    kept[4] = kept[4] - 1;
 }
 
 // Root position p holds or not.

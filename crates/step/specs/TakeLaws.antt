@@ -1,7 +1,6 @@
 -- A node leaves the worklist and gets its truth.
 -- Assumes nothing.
 use Prim.Native.Nat.{ℕ, _≤_}
-use native.Mathlib.Omega.{arith}
 use mathlib.Core.Path.{_≡_, refl, ap, sym, _∙_}
 use mathlib.Core.Bool.{Bool, true, false, cond}
 use mathlib.Core.List.{List}
@@ -41,26 +40,12 @@ module _ (T : Tables) (k : ℕ) where
       let p = then-some (withMember (nodeCount T) (e .worklist) k false) (λ w. some (withWorklist e w)) d h in
       (p .0, p .1, sym (some-is (withWorklist e (p .0)) d (p .2)))
 
-  off-not : (e : Evaluation) → dequeued T k e ≡ none → withMember (nodeCount T) (e .worklist) k false ≡ none
-  unfolding dequeued
-  off-not e h = go (withMember (nodeCount T) (e .worklist) k false) h
-    where
-      go : (o : Option CountedSet) → andThen o (λ w. some (withWorklist e w)) ≡ none → o ≡ none
-      go none h = refl
-      go (some w) h = let z : _≡_ {A = ℕ} 0 1 = cc in absurd (omega arith)
-
-  module _ (ws : List ℕ) (long : used T ≤ length ws) (t ok : Bool) (mid : List ℕ) (w : Wrote T ws (dequeued T k (ofWords T ws)) ok mid) where
+  module _ (ws : List ℕ) (long : used T ≤ length ws) (t : Bool) (mid : List ℕ) (w : Wrote T ws (dequeued T k (ofWords T ws)) true mid) where
     abbrev e : Evaluation
     e = ofWords T ws
 
-    pub take-none : ok ≡ false → Steps T ws (takenFrom T k t e) (Fault k) mid
-    unfolding takenFrom
-    take-none p =
-        let r = wrote-false T ws (dequeued T k e) mid ok w p in
-        rw (off-not e (r .0)) (refl, r .1)
-
     -- then it became t, or there was a 17
-    module _ (p : ok ≡ true) (yes : Bool) (after : List ℕ) (s : Wrote T mid (settledTo T k t (ofWords T mid)) yes after) where
+    module _ (yes : Bool) (after : List ℕ) (s : Wrote T mid (settledTo T k t (ofWords T mid)) yes after) where
       record Left : Type 0 where
         out : Evaluation
         is : takenFrom T k t e ≡ tookAt k (settledTo T k t out)
@@ -69,7 +54,7 @@ module _ (T : Tables) (k : ℕ) where
       left : Left
       unfolding takenFrom
       left =
-          let r = wrote-true T ws (dequeued T k e) mid ok w p in
+          let r = wrote-true T ws (dequeued T k e) mid true w refl in
           let o = off e (r .0) (r .1) in
           let d : Evaluation = withWorklist e (o .0) in
           let put : mid ≡ written T ws d = r .2 ∙ ap (written T ws) (o .2) in

@@ -2,9 +2,10 @@
 ghost use mathlib.Core.Path.{_≡_};
 ghost use mathlib.Core.Bool.{Bool, true, false};
 ghost use mathlib.Core.Option.{some};
-ghost use Prim.Native.Nat.{_+_, _*_, _<_, _≤_};
-ghost use lib.ListN.{length, set};
+ghost use Prim.Native.Nat.{_+_, _*_, _/_, _%_, _<_, _≤_};
+ghost use lib.ListN.{length, getD, set};
 ghost use Rattle.theory.specs.Limits.{Limited};
+ghost use Rattle.words.specs.Bit.{bit};
 ghost use Rattle.words.specs.Next.{next};
 ghost use Rattle.readers.specs.Reader.{readingOf};
 ghost use Rattle.readers.specs.ReaderTable.{readerWords};
@@ -138,7 +139,7 @@ fn settle(
     )
 }
 
-// Node k leaves the worklist and gets its truth.
+// Node k, on the worklist, leaves it and gets its truth.
 fn take(
     counts: Counts,
     made: usize,
@@ -148,12 +149,10 @@ fn take(
     k: usize,
     holds: bool,
 ) -> Taking
-    requires { ⌜ Limited counts × (made ≤ counts .roots) × (4 * counts .roots ≤ length (now producers)) × (readerWords counts ≤ length (now readers)) × (usedBy counts ≤ length (now kept)) × (k < counts .nodes) ⌝ }
+    requires { ⌜ Limited counts × (made ≤ counts .roots) × (4 * counts .roots ≤ length (now producers)) × (readerWords counts ≤ length (now readers)) × (usedBy counts ≤ length (now kept)) × (k < counts .nodes) × (bit (getD (now kept) (16 + counts .nodes + k / 32) 0) (k % 32) ≡ true) × (0 < getD (now kept) 4 0) ⌝ }
     ensures { λ r. ⌜ ((T : Tables) → Steps (told counts made (now (producers .entry)) (now (readers .entry)) T) (now (kept .entry)) (takenFrom (told counts made (now (producers .entry)) (now (readers .entry)) T) k holds (ofWords (told counts made (now (producers .entry)) (now (readers .entry)) T) (now (kept .entry)))) r (now (kept .exit))) ⌝ }
 {
-    if !retained::dequeue(counts, kept, k) {
-        return Taking::Fault(k);
-    }
+    retained::dequeue(counts, kept, k);
     if settle(counts, made, producers, readers, kept, k, holds) {
         Taking::Took(k)
     } else {

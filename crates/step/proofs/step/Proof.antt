@@ -3,9 +3,10 @@ use native.Mathlib.Omega.{arith}
 use mathlib.Core.Path.{_≡_, sym, ap, _∙_}
 use mathlib.Core.Logic.{⊎-elim}
 use denote.Enum.Declared.{tagOf}
-use Rattle.kept_laws.specs.Given.{walked}
+use Rattle.kept_laws.specs.Given.{bare, walked}
 use Rattle.node_truth.specs.declared.Seen.the-variants.{Stray}
 use Rattle.node_truth.proofs.Seen.{the-type}
+use Rattle.step.specs.QueueLaws.{lowest-on}
 use Rattle.step.specs.StepLaws.{step-none, step-lost, step-stray, step-taken}
 use borrow.Author.Needs.{needs}
 use Rattle.step.proofs.step.Statement.{statement}
@@ -42,7 +43,7 @@ is-true-requires : tie.Need-is-true-requires
 is-true-requires c κs = search needs
 
 take-requires : tie.Need-take-requires
-take-requires c κs = search needs
+take-requires c κs = (c .before .before .before .before .before .before .before .before .before .before .before .before .before .before .before .before .pre .0 .limited, c .before .before .before .before .before .before .before .before .before .before .before .before .before .before .before .before .pre .0 .few, c .before .before .before .before .before .before .before .before .before .before .before .before .before .before .before .before .pre .0 .producers-long, c .before .before .before .before .before .before .before .before .before .before .before .before .before .before .before .before .pre .0 .readers-long, c .before .before .before .before .before .before .before .before .before .before .before .before .before .before .before .before .pre .0 .kept-long, c .before .before .before .before .before .if2 .left, lowest-on (bare (c .before .before .before .before .before .before .before .before .before .before .before .before .before .before .before .before .args .counts)) (c .before .before .before .before .before .before .before .before .before .before .before .before .before .before .before .before .args .kept .now) (c .before .before .before .before .before .before .before .before .before .before .before .before .before .before .before .before .pre .0 .kept-long) (c .before .before .before .before .before .before .before .before .before .before .before .before .before .before .before .before .args .from) _ (c .before .before .before .before .before .before .before .lowest-queued .ensures (bare (c .before .before .before .before .before .before .before .before .before .before .before .before .before .before .before .before .args .counts))) (c .before .before .before .before .before .if2 .left), omega (arith, c .before .before .before .before .before .before .before .before .before .if1 .left))
 
 same-length-3 : tie.Need-same-length-3
 same-length-3 c = search needs
