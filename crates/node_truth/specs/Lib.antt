@@ -1,3 +1,5 @@
+pub mod Blocks
+pub mod BlockLaws
 pub mod InWords
 pub mod InWordsLaws
 pub mod Turns

@@ -1,13 +1,15 @@
 // The truth of a node as a check reads it, from the words of a kept evaluation: `node_truth!` of tight/evaluate.rs.
 ghost use mathlib.Core.Path.{_≡_};
+ghost use mathlib.Core.Bool.{true, false, not};
 ghost use mathlib.Core.Option.{some};
-ghost use Prim.Native.Nat.{_+_, _*_, _<_, _≤_};
+ghost use Prim.Native.Nat.{_+_, _*_, _-_, _<_, _≤_};
 ghost use lib.ListN.{length};
 ghost use Rattle.theory.specs.Limits.{Limited};
 ghost use Rattle.theory.specs.Node.{nodeAt, span};
 ghost use Rattle.kept.specs.Seen.{groupSeen, nodeSeen};
 ghost use Rattle.kept_laws.specs.Given.{usedBy};
 ghost use Rattle.node_truth.specs.InWords.{seenOf, trueIn, presentIn, atomSeen, impliesSeen, spanSeen};
+ghost use Rattle.node_truth.specs.Blocks.{AllBelow, AllAre};
 use theory::Counts;
 use theory::Node;
 
@@ -69,6 +71,110 @@ fn group_truth(
     known(!decisive)
 }
 
+// Whether the 16 operands from `first` on are below k.
+fn block_below(operands: &[u32], k: usize, first: usize) -> bool
+    requires { ⌜ first + 16 ≤ length (now operands) ⌝ }
+    ensures { λ r. ⌜ (r ≡ true → AllBelow (now (operands .entry)) k first (first + 16)) ⌝ }
+{
+    let end = first + 16;
+    // a word, as the operands are, and never more than k
+    let most = (k % 4294967296) as u32;
+    let mut x = 0u32;
+    let mut i = first;
+    while i < end {
+        if operands[i] >= most {
+            x = 1;
+        }
+        i += 1;
+    }
+    x == 0
+}
+
+// Whether the 16 operands from `first` on are true.
+fn block_true(operands: &[u32], kept: &[u32], first: usize) -> bool
+    requires { ⌜ (first + 16 ≤ length (now operands)) × AllBelow (now operands) (length (now kept) - 16) first (first + 16) ⌝ }
+    ensures { λ r. ⌜ (r ≡ true → AllAre (now (operands .entry)) (now (kept .entry)) true first (first + 16)) ⌝ }
+{
+    let end = first + 16;
+    let mut x = 0u32;
+    let mut i = first;
+    while i < end {
+        if kept[16 + operands[i] as usize] == 0 {
+            x = 1;
+        }
+        i += 1;
+    }
+    x == 0
+}
+
+// Whether the 16 operands from `first` on are false.
+fn block_false(operands: &[u32], kept: &[u32], first: usize) -> bool
+    requires { ⌜ (first + 16 ≤ length (now operands)) × AllBelow (now operands) (length (now kept) - 16) first (first + 16) ⌝ }
+    ensures { λ r. ⌜ (r ≡ true → AllAre (now (operands .entry)) (now (kept .entry)) false first (first + 16)) ⌝ }
+{
+    let end = first + 16;
+    let mut x = 0u32;
+    let mut i = first;
+    while i < end {
+        x = x | kept[16 + operands[i] as usize];
+        i += 1;
+    }
+    x == 0
+}
+
+// Whether the 16 operands from `first` on are below k and none decides. No branch goes by a truth, so that several are read at once.
+fn undecided(operands: &[u32], kept: &[u32], k: usize, first: usize, decisive: bool) -> bool
+    requires { ⌜ (first + 16 ≤ length (now operands)) × (16 + k ≤ length (now kept)) ⌝ }
+    ensures { λ r. ⌜ (r ≡ true → AllBelow (now (operands .entry)) k first (first + 16) × AllAre (now (operands .entry)) (now (kept .entry)) (not decisive) first (first + 16)) ⌝ }
+{
+    if !block_below(operands, k, first) {
+        return false;
+    }
+    if decisive {
+        block_false(operands, kept, first)
+    } else {
+        block_true(operands, kept, first)
+    }
+}
+
+// The first operand that is not passed by blocks in which none decides.
+fn skip_blocks(
+    operands: &[u32],
+    kept: &[u32],
+    k: usize,
+    start: usize,
+    end: usize,
+    decisive: bool,
+) -> usize
+    requires { ⌜ (start ≤ end) × (end ≤ length (now operands)) × (16 + k ≤ length (now kept)) ⌝ }
+    ensures { λ r. ⌜ (start ≤ r) × (r ≤ end) × (groupSeen k (trueIn (now (kept .entry))) decisive (span (now (operands .entry)) start (end - start)) ≡ groupSeen k (trueIn (now (kept .entry))) decisive (span (now (operands .entry)) r (end - r))) ⌝ }
+{
+    let mut i = start;
+    while end - i >= 16 {
+        if !undecided(operands, kept, k, i, decisive) {
+            return i;
+        }
+        i += 16;
+    }
+    i
+}
+
+// And or Or of many operands: by blocks, as far as none decides.
+fn large_truth(
+    operands: &[u32],
+    kept: &[u32],
+    k: usize,
+    start: usize,
+    count: usize,
+    decisive: bool,
+) -> Seen
+    requires { ⌜ (start + count ≤ length (now operands)) × (16 + k ≤ length (now kept)) ⌝ }
+    ensures { λ r. ⌜ seenOf r ≡ groupSeen k (trueIn (now (kept .entry))) decisive (span (now (operands .entry)) start count) ⌝ }
+{
+    let i = skip_blocks(operands, kept, k, start, start + count, decisive);
+    group_truth(operands, kept, k, i, start + count - i, decisive)
+}
+
 // The same of a span that may pass the table of `size` entries.
 pub fn span_truth(
     operands: &[u32],
@@ -84,6 +190,9 @@ pub fn span_truth(
 {
     if start + count > size {
         return Seen::Stray;
+    }
+    if count >= 16 {
+        return large_truth(operands, kept, k, start, count, decisive);
     }
     group_truth(operands, kept, k, start, count, decisive)
 }
