@@ -176,6 +176,7 @@ pub fn check(
 ) -> Checked
     ensures { λ r. ⌜ outcomeOf r (now (kept .exit)) ≡ outcome 64 8 (tablesOf counts plan (now (nodes .entry)) (now (operands .entry)) (now (roots .entry)) (now (producers .entry)) (now (readers .entry))) (candidateOf stamp (now (candidate .entry))) (now (kept .entry)) ⌝ }
 {
+    // named again, so that the compiler hands the parts of each on by value
     let candidate = &candidate[..];
     let nodes = &nodes[..];
     let operands = &operands[..];
