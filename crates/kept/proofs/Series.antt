@@ -68,11 +68,11 @@ module _ (T : Tables) (plan : PlannedTables T) where
     fits none = fits-zeroed T
     fits (some c) = fits-fresh T (atomsOf T c)
 
-    eleven : length {A = ℕ} (replicate 11 0) ≡ 11
-    eleven = length-replicate {A = ℕ} 11 0
+    two : length {A = ℕ} (replicate 2 0) ≡ 2
+    two = length-replicate {A = ℕ} 2 0
 
     state : Option Candidate → List ℕ
-    state o = image (evaluationOf o) (replicate 11 0) (behind T past)
+    state o = image (evaluationOf o) (replicate 2 0) (behind T past)
 
     -- the words' length, always the same
     size : ℕ
@@ -80,7 +80,7 @@ module _ (T : Tables) (plan : PlannedTables T) where
 
     length-state : (o : Option Candidate) → length (state o) ≡ size
     unfolding state size
-    length-state o = length-image T (evaluationOf o) (fits o) (replicate 11 0) (behind T past) eleven
+    length-state o = length-image T (evaluationOf o) (fits o) (replicate 2 0) (behind T past) two
 
     zero-state : zeroedWords T past ≡ state none
     unfolding state
@@ -111,9 +111,9 @@ module _ (T : Tables) (plan : PlannedTables T) where
     outcome-passed o c e =
         ap (λ n. outcomeAt floor divisor T c (state o) (tests T c n)) (length-state o)
         ∙ ap (outcomeAt floor divisor T c (state o)) e
-        ∙ ap (λ d. concluded T (state o) (result floor divisor T (atomsOf T c) d)) (of-image T (evaluationOf o) (fits o) (replicate 11 0) (behind T past) eleven)
+        ∙ ap (λ d. concluded T (state o) (result floor divisor T (atomsOf T c) d)) (of-image T (evaluationOf o) (fits o) (replicate 2 0) (behind T past) two)
         ∙ ap (concluded T (state o)) (result-state o c (atoms-within T c size e))
-        ∙ ap (λ ws. record { answer = accepted (verdict T (atomsOf T c)) (gone o c); words = ws }) (written-image T (evaluationOf o) (fits o) (replicate 11 0) (behind T past) eleven (fresh T (atomsOf T c)))
+        ∙ ap (λ ws. record { answer = accepted (verdict T (atomsOf T c)) (gone o c); words = ws }) (written-image T (evaluationOf o) (fits o) (replicate 2 0) (behind T past) two (fresh T (atomsOf T c)))
 
     outcome-refused : (o : Option Candidate) (c : Candidate) (r : Refusal) → tests T c size ≡ Refused r
         → outcome floor divisor T c (state o) ≡ record { answer = refused r; words = state o }
@@ -123,7 +123,7 @@ module _ (T : Tables) (plan : PlannedTables T) where
 
     walk-state : (d c : Candidate) → keptWalk T (atomsOf T c) (ofWords T (state (some d))) ≡ keptWalk T (atomsOf T c) (fresh T (atomsOf T d))
     unfolding state
-    walk-state d c = ap (keptWalk T (atomsOf T c)) (of-image T (evaluationOf (some d)) (fits (some d)) (replicate 11 0) (behind T past) eleven)
+    walk-state d c = ap (keptWalk T (atomsOf T c)) (of-image T (evaluationOf (some d)) (fits (some d)) (replicate 2 0) (behind T past) two)
 
     gone-over : (o : Option Candidate) (c : Candidate) → GoneOver floor divisor T o (state o) c (gone o c)
     unfolding gone goneOver

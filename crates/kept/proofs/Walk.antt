@@ -21,7 +21,7 @@ module _ (T : Tables) (good : Consistent T) (I J : Interpretation) where
   walk = kept-fresh T good I J
 
   -- on the lent words: they hold the evaluation of I, and what the walk leaves there is that of J
-  pub walk-words : (unused rest : List ℕ) → length unused ≡ 11
+  pub walk-words : (unused rest : List ℕ) → length unused ≡ 2
       → (keptWalk T J (ofWords T (image (fresh T I) unused rest)) ≡ ended (places (dirty T I J) 0 (nodeCount T)) (fresh T J))
       × (written T (image (fresh T I) unused rest) (fresh T J) ≡ image (fresh T J) unused rest)
   walk-words unused rest e = (

@@ -12,6 +12,7 @@ use Rattle.words.specs.Sets.{member}
 use Rattle.kept.specs.Tabulate.{tabulate}
 use Rattle.kept.specs.SetOf.{words32, setOf}
 use Rattle.kept.specs.CountedSet.{CountedSet, countedSet}
+use Rattle.kept.specs.Worklist.{Worklist, worklistOf}
 use Rattle.kept.specs.Tables.{Tables, atomCount, nodeCount, rootCount, rootAt, headAt, bodyAt}
 
 -- all in words: state 1 if a check is held; truth a word for each node, 0 if false; support the number of producers with
@@ -20,7 +21,7 @@ pub record Evaluation : Type 0 where
   pub state : ℕ
   pub stamp : ℕ
   pub truths : List ℕ
-  pub worklist : CountedSet
+  pub worklist : Worklist
   pub support : List ℕ
   pub candidate : List ℕ
   pub missing : CountedSet
@@ -42,7 +43,7 @@ zeroed T =
       state = 0;
       stamp = 0;
       truths = replicate (nodeCount T) 0;
-      worklist = noMembers (nodeCount T);
+      worklist = record { first = 0; others = noMembers (nodeCount T); groups = replicate (words32 (words32 (nodeCount T))) 0 };
       support = replicate (atomCount T) 0;
       candidate = replicate (words32 (atomCount T)) 0;
       missing = noMembers (atomCount T);
@@ -60,7 +61,7 @@ held T v w s c f =
       state = 1;
       stamp = T .counts .stamp;
       truths = tabulate (nodeCount T) (λ k. truthWord (v k));
-      worklist = countedSet w (nodeCount T);
+      worklist = worklistOf w (nodeCount T);
       support = tabulate (atomCount T) s;
       candidate = setOf c (atomCount T);
       missing = countedSet (λ a. c a && eqb (s a) 0) (atomCount T);

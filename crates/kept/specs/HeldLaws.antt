@@ -14,6 +14,8 @@ use Rattle.kept.specs.Tabulate.{updated, updated-here, updated-there, up
 use Rattle.kept.specs.SetOfLaws.{member-below, setOf-agree}
 use Rattle.kept.specs.CountedSet.{andThen, withBit, withMember, moved}
 use Rattle.kept.specs.CountedSetLaws.{counted-agree, bit-set, member-set}
+use Rattle.kept.specs.Worklist.{withNode}
+use Rattle.kept.specs.WorklistLaws.{worklist-same, node-entered}
 use Rattle.kept.specs.Tables.{Tables, atomCount, nodeCount, rootCount, headAt}
 use Rattle.kept.specs.Evaluation.{Evaluation, truthAt, present, truthWord, held}
 use Rattle.kept.specs.Parts.{withTruths, withWorklist, withSupport, withCandidate, withFalseRoots}
@@ -30,7 +32,7 @@ module _ (T : Tables) where
         state = 1;
         stamp = T .counts .stamp;
         truths = tabulate-agree (nodeCount T) (λ k. truthWord (v k)) (λ k. truthWord (v′ k)) (λ k l. ap truthWord (hv k l)) i;
-        worklist = counted-agree w w′ (nodeCount T) hw i;
+        worklist = worklist-same w w′ (nodeCount T) hw i;
         support = tabulate-agree (atomCount T) s s′ hs i;
         candidate = setOf-agree c c′ (atomCount T) hc i;
         missing = counted-agree (λ a. c a && eqb (s a) 0) (λ a. c′ a && eqb (s′ a) 0) (atomCount T) (λ a l. ap₂ (λ x y. x && eqb y 0) (hc a l) (hs a l)) i;
@@ -79,11 +81,6 @@ module _ (T : Tables) where
         ap (withTruths (held T v w s c f)) (tabulate-set (nodeCount T) (λ k. truthWord (v k)) k (truthWord x)
         ∙ tabulate-agree (nodeCount T) (updated (λ k. truthWord (v k)) k (truthWord x)) (λ j. truthWord (updated v k x j)) (λ j l. word-updated k x j))
 
-    pub worklist-held : (k : ℕ) (x : Bool) → k < nodeCount T
-        → andThen (withMember (nodeCount T) (held T v w s c f .worklist) k x) (λ m. some (withWorklist (held T v w s c f) m)) ≡ some (held T v (updated w k x) s c f)
-    unfolding held
-    worklist-held k x l = rw (member-set w (nodeCount T) k x l)
-
     pub roots-held : (r : ℕ) (x : Bool) → r < rootCount T
         → andThen (withMember (rootCount T) (held T v w s c f .falseRoots) r x) (λ m. some (withFalseRoots (held T v w s c f) m)) ≡ some (held T v w s c (updated f r x))
     unfolding held
@@ -121,8 +118,8 @@ module _ (T : Tables) where
     -- ---- a reader told
 
     pub entered-held : (m : ℕ) → m < nodeCount T → entered T m (held T v w s c f) ≡ some (held T v (updated w m true) s c f)
-    unfolding entered
-    entered-held m l = worklist-held m true l
+    unfolding entered held
+    entered-held m l = rw (node-entered w (nodeCount T) m l)
 
     pub node-told : (k m : ℕ) (t : Bool) → k < m → m < nodeCount T → readerUpdated T k t (held T v w s c f) (Node m) ≡ some (held T v (updated w m true) s c f)
     unfolding readerUpdated

@@ -16,17 +16,17 @@ unfoldable pub cut : List ℕ → List ℕ → List (List ℕ)
 cut [] ws = ws ∷ []
 cut (n ∷ ns) ws = take n ws ∷ cut ns (drop n ws)
 
--- a header of 16 words, the last 11 unused; then truth, worklist, support, candidate, missing atoms, false roots; the rest is unused
+-- a header of 8 words, the last 2 unused; then truth, worklist, support, candidate, missing atoms, false roots, groups of the worklist; the rest is unused
 abbrev pub lengths : Tables → List ℕ
 lengths T =
-    5 ∷ 11 ∷ nodeCount T ∷ words32 (nodeCount T) ∷ atomCount T ∷ words32 (atomCount T) ∷ words32 (atomCount T) ∷ words32 (rootCount T) ∷ []
+    6 ∷ 2 ∷ nodeCount T ∷ words32 (nodeCount T) ∷ atomCount T ∷ words32 (atomCount T) ∷ words32 (atomCount T) ∷ words32 (rootCount T) ∷ words32 (words32 (nodeCount T)) ∷ []
 
 abbrev pub header : Evaluation → List ℕ
-header e = e .state ∷ e .stamp ∷ e .missing .size ∷ e .falseRoots .size ∷ e .worklist .size ∷ []
+header e = e .state ∷ e .stamp ∷ e .missing .size ∷ e .falseRoots .size ∷ e .worklist .others .size ∷ e .worklist .first ∷ []
 
 abbrev pub parts : Evaluation → List ℕ → List ℕ → List (List ℕ)
 parts e unused rest =
-    header e ∷ unused ∷ e .truths ∷ e .worklist .members ∷ e .support ∷ e .candidate ∷ e .missing .members ∷ e .falseRoots .members ∷ rest ∷ []
+    header e ∷ unused ∷ e .truths ∷ e .worklist .others .members ∷ e .support ∷ e .candidate ∷ e .missing .members ∷ e .falseRoots .members ∷ e .worklist .groups ∷ rest ∷ []
 
 -- the words of an evaluation
 unfoldable pub image : Evaluation → List ℕ → List ℕ → List ℕ
@@ -42,7 +42,7 @@ ofWords T ws =
       state = getD ws 0 0;
       stamp = getD ws 1 0;
       truths = section T ws 2;
-      worklist = record { members = section T ws 3; size = getD ws 4 0 };
+      worklist = record { first = getD ws 5 0; others = record { members = section T ws 3; size = getD ws 4 0 }; groups = section T ws 8 };
       support = section T ws 4;
       candidate = section T ws 5;
       missing = record { members = section T ws 6; size = getD ws 2 0 };
@@ -51,14 +51,14 @@ ofWords T ws =
 
 -- the words with another evaluation in the place of theirs
 unfoldable pub written : Tables → List ℕ → Evaluation → List ℕ
-written T ws e = image e (section T ws 1) (section T ws 8)
+written T ws e = image e (section T ws 1) (section T ws 9)
 
 -- where each section starts
 abbrev pub truthsStart : ℕ
-truthsStart = 16
+truthsStart = 8
 
 abbrev pub worklistStart : Tables → ℕ
-worklistStart T = 16 + nodeCount T
+worklistStart T = 8 + nodeCount T
 
 abbrev pub supportStart : Tables → ℕ
 supportStart T = worklistStart T + words32 (nodeCount T)
@@ -72,8 +72,11 @@ missingStart T = candidateStart T + words32 (atomCount T)
 abbrev pub falseRootsStart : Tables → ℕ
 falseRootsStart T = missingStart T + words32 (atomCount T)
 
+abbrev pub groupsStart : Tables → ℕ
+groupsStart T = falseRootsStart T + words32 (rootCount T)
+
 abbrev pub used : Tables → ℕ
-used T = falseRootsStart T + words32 (rootCount T)
+used T = groupsStart T + words32 (words32 (nodeCount T))
 
 -- the listed length of lent buffer 7
 abbrev pub listed : Tables → ℕ

@@ -12,6 +12,7 @@ use Rattle.kept.specs.Tabulate.{length-tabulate}
 use Rattle.kept.specs.SetOf.{words32}
 use Rattle.kept.specs.SetOfLaws.{length-setOf}
 use Rattle.kept.specs.CountedSet.{countedSet}
+use Rattle.kept.specs.Worklist.{worklistOf}
 use Rattle.kept.specs.Tables.{Tables, atomCount, nodeCount, rootCount}
 use Rattle.kept.specs.Evaluation.{Evaluation, zeroed, held, truth, support, falseRoot, summary, fresh}
 use Rattle.kept.specs.Layout.{flat, cut, lengths, parts, image, section, ofWords, written, used, listed}
@@ -44,28 +45,29 @@ cut-flat (n ∷ ns) (x ∷ xs) h = rw (take-at x (flat xs) n (h .0), drop-at x (
 -- they have the tables' lengths
 pub record Fits (T : Tables) (e : Evaluation) : Type 0 where
   pub truths : length (e .truths) ≡ nodeCount T
-  pub worklist : length (e .worklist .members) ≡ words32 (nodeCount T)
+  pub worklist : length (e .worklist .others .members) ≡ words32 (nodeCount T)
   pub support : length (e .support) ≡ atomCount T
   pub candidate : length (e .candidate) ≡ words32 (atomCount T)
   pub missing : length (e .missing .members) ≡ words32 (atomCount T)
   pub falseRoots : length (e .falseRoots .members) ≡ words32 (rootCount T)
+  pub groups : length (e .worklist .groups) ≡ words32 (words32 (nodeCount T))
 
 -- document 01's length is enough
 pub room : (T : Tables) → used T ≤ listed T
 room T = omega arith
 
 -- the rest of any words
-pub section-rest : (T : Tables) (ws : List ℕ) → section T ws 8 ≡ drop (used T) ws
+pub section-rest : (T : Tables) (ws : List ℕ) → section T ws 9 ≡ drop (used T) ws
 unfolding cut
 section-rest T ws = simp drop-drop
 
-module _ (T : Tables) (e : Evaluation) (fits : Fits T e) (unused rest : List ℕ) (eleven : length unused ≡ 11) where
+module _ (T : Tables) (e : Evaluation) (fits : Fits T e) (unused rest : List ℕ) (two : length unused ≡ 2) where
   abbrev ps : List (List ℕ)
   ps = parts e unused rest
 
   cut-image : cut (lengths T) (image e unused rest) ≡ ps
   unfolding image
-  cut-image = cut-flat (lengths T) ps (refl, (eleven, (fits .truths, (fits .worklist, (fits .support, (fits .candidate, (fits .missing, (fits .falseRoots, tt))))))))
+  cut-image = cut-flat (lengths T) ps (refl, (two, (fits .truths, (fits .worklist, (fits .support, (fits .candidate, (fits .missing, (fits .falseRoots, (fits .groups, tt)))))))))
 
   pub of-image : ofWords T (image e unused rest) ≡ e
   unfolding ofWords image flat
@@ -77,7 +79,7 @@ module _ (T : Tables) (e : Evaluation) (fits : Fits T e) (unused rest : List ℕ
             state = e .state;
             stamp = e .stamp;
             truths = getD c 2 [];
-            worklist = record { members = getD c 3 []; size = e .worklist .size };
+            worklist = record { first = e .worklist .first; others = record { members = getD c 3 []; size = e .worklist .others .size }; groups = getD c 8 [] };
             support = getD c 4 [];
             candidate = getD c 5 [];
             missing = record { members = getD c 6 []; size = e .missing .size };
@@ -87,37 +89,38 @@ module _ (T : Tables) (e : Evaluation) (fits : Fits T e) (unused rest : List ℕ
   -- writing another evaluation over it
   pub written-image : (d : Evaluation) → written T (image e unused rest) d ≡ image d unused rest
   unfolding written
-  written-image d = ap₂ (image d) (ap (λ c. getD c 1 []) cut-image) (ap (λ c. getD c 8 []) cut-image)
+  written-image d = ap₂ (image d) (ap (λ c. getD c 1 []) cut-image) (ap (λ c. getD c 9 []) cut-image)
 
   -- what is behind the used words
   pub behind-image : drop (used T) (image e unused rest) ≡ rest
-  behind-image = sym (section-rest T (image e unused rest)) ∙ ap (λ c. getD c 8 []) cut-image
+  behind-image = sym (section-rest T (image e unused rest)) ∙ ap (λ c. getD c 9 []) cut-image
 
   pub length-image : length (image e unused rest) ≡ used T + length rest
   unfolding image flat
   length-image =
-      simp length-append (omega (arith, eleven, fits .truths, fits .worklist, fits .support, fits .candidate, fits .missing, fits .falseRoots))
+      simp length-append (omega (arith, two, fits .truths, fits .worklist, fits .support, fits .candidate, fits .missing, fits .falseRoots, fits .groups))
 
 -- ---- any words are the image of an evaluation
 
 module _ (T : Tables) (ws : List ℕ) (long : used T ≤ length ws) where
-  first : (xs : List ℕ) → 5 ≤ length xs → getD xs 0 0 ∷ getD xs 1 0 ∷ getD xs 2 0 ∷ getD xs 3 0 ∷ getD xs 4 0 ∷ [] ≡ take 5 xs
+  first : (xs : List ℕ) → 6 ≤ length xs → getD xs 0 0 ∷ getD xs 1 0 ∷ getD xs 2 0 ∷ getD xs 3 0 ∷ getD xs 4 0 ∷ getD xs 5 0 ∷ [] ≡ take 6 xs
   first [] l = absurd (omega arith)
   first (a ∷ []) l = absurd (omega arith)
   first (a ∷ b ∷ []) l = absurd (omega arith)
   first (a ∷ b ∷ c ∷ []) l = absurd (omega arith)
   first (a ∷ b ∷ c ∷ d ∷ []) l = absurd (omega arith)
-  first (a ∷ b ∷ c ∷ d ∷ e ∷ xs) l = refl
+  first (a ∷ b ∷ c ∷ d ∷ e ∷ []) l = absurd (omega arith)
+  first (a ∷ b ∷ c ∷ d ∷ e ∷ f ∷ xs) l = refl
 
-  pub image-of : image (ofWords T ws) (section T ws 1) (section T ws 8) ≡ ws
+  pub image-of : image (ofWords T ws) (section T ws 1) (section T ws 9) ≡ ws
   unfolding image ofWords cut flat
   image-of =
-      ap (λ h. h ++ flat (cut (11 ∷ nodeCount T ∷ words32 (nodeCount T) ∷ atomCount T ∷ words32 (atomCount T) ∷ words32 (atomCount T) ∷ words32 (rootCount T) ∷ []) (drop 5 ws))) (first ws (omega arith))
+      ap (λ h. h ++ flat (cut (2 ∷ nodeCount T ∷ words32 (nodeCount T) ∷ atomCount T ∷ words32 (atomCount T) ∷ words32 (atomCount T) ∷ words32 (rootCount T) ∷ words32 (words32 (nodeCount T)) ∷ []) (drop 6 ws))) (first ws (omega arith))
       ∙ flat-cut (lengths T) ws
 
-  pub length-unused : length (section T ws 1) ≡ 11
+  pub length-unused : length (section T ws 1) ≡ 2
   unfolding cut
-  length-unused = length-take-le 11 (drop 5 ws) (simp length-drop (omega arith))
+  length-unused = length-take-le 2 (drop 6 ws) (simp length-drop (omega arith))
 
   pub fits-of : Fits T (ofWords T ws)
   unfolding ofWords cut
@@ -129,20 +132,22 @@ module _ (T : Tables) (ws : List ℕ) (long : used T ≤ length ws) where
         candidate = length-take-le (words32 (atomCount T)) _ (simp (drop-drop, length-drop) (omega arith));
         missing = length-take-le (words32 (atomCount T)) _ (simp (drop-drop, length-drop) (omega arith));
         falseRoots = length-take-le (words32 (rootCount T)) _ (simp (drop-drop, length-drop) (omega arith));
+        groups = length-take-le (words32 (words32 (nodeCount T))) _ (simp (drop-drop, length-drop) (omega arith));
       }
 
 -- ---- the evaluations of a series
 
 pub fits-fresh : (T : Tables) (I : Interpretation) → Fits T (fresh T I)
-unfolding fresh summary held countedSet
+unfolding fresh summary held countedSet worklistOf
 fits-fresh T I =
     record {
       truths = length-tabulate (nodeCount T) _;
-      worklist = length-setOf (λ k. false) (nodeCount T);
+      worklist = length-setOf _ (nodeCount T);
       support = length-tabulate (atomCount T) _;
       candidate = length-setOf I (atomCount T);
       missing = length-setOf _ (atomCount T);
       falseRoots = length-setOf (falseRoot T (truth T I)) (rootCount T);
+      groups = length-setOf _ (words32 (nodeCount T));
     }
 
 pub fits-zeroed : (T : Tables) → Fits T (zeroed T)
@@ -155,6 +160,7 @@ fits-zeroed T =
       candidate = length-replicate (words32 (atomCount T)) 0;
       missing = length-replicate (words32 (atomCount T)) 0;
       falseRoots = length-replicate (words32 (rootCount T)) 0;
+      groups = length-replicate (words32 (words32 (nodeCount T))) 0;
     }
 
 -- the words of a zeroed evaluation are 0
@@ -177,7 +183,7 @@ all-zeros (n ∷ ns) ws = ap (λ l. replicate n 0 ++ l) (all-zeros ns ws) ∙ ze
 abbrev pub behind : Tables → List ℕ → List ℕ
 behind T past = replicate (listed T - used T) 0 ++ past
 
-pub zero-image : (T : Tables) (past : List ℕ) → image (zeroed T) (replicate 11 0) (behind T past) ≡ replicate (listed T) 0 ++ past
+pub zero-image : (T : Tables) (past : List ℕ) → image (zeroed T) (replicate 2 0) (behind T past) ≡ replicate (listed T) 0 ++ past
 unfolding image flat zeroed
 zero-image T past =
     ap (zerosFor (lengths T)) (append-nil (behind T past))

@@ -2,7 +2,9 @@ pub mod Tabulate
 pub mod SetOf
 pub mod SetOfLaws
 pub mod CountedSet
+pub mod Worklist
 pub mod CountedSetLaws
+pub mod WorklistLaws
 pub mod Tables
 pub mod Evaluation
 pub mod Seen

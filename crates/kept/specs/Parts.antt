@@ -3,6 +3,7 @@
 use Prim.Native.Nat.{ℕ}
 use mathlib.Core.List.{List}
 use Rattle.kept.specs.CountedSet.{CountedSet}
+use Rattle.kept.specs.Worklist.{Worklist}
 use Rattle.kept.specs.Evaluation.{Evaluation}
 
 abbrev pub withTruths : Evaluation → List ℕ → Evaluation
@@ -18,7 +19,7 @@ withTruths e truths =
       falseRoots = e .falseRoots;
     }
 
-abbrev pub withWorklist : Evaluation → CountedSet → Evaluation
+abbrev pub withWorklist : Evaluation → Worklist → Evaluation
 withWorklist e worklist =
     record {
       state = e .state;

@@ -6,7 +6,6 @@ use mathlib.Core.List.{List, [], _∷_}
 use mathlib.Core.Option.{Option, some, none}
 use lib.Dec.{eqb, ltb}
 use lib.ListN.{getD}
-use Rattle.base.specs.Places.{places}
 use Rattle.formula.specs.Satisfaction.{Interpretation}
 use Rattle.words.specs.Changed.{unlike}
 use Rattle.kept.specs.CountedSet.{andThen, withBit, withMember}
@@ -33,23 +32,3 @@ atomUpdated T J a e = cond (unlike (present e a) (J a)) (atomTurned T J a e) (so
 unfoldable pub walkStart : Tables → Interpretation → ℕ → Evaluation → Option Evaluation
 walkStart T J zero e = some e
 walkStart T J (suc a) e = andThen (walkStart T J a e) (atomUpdated T J a)
-
--- ---- where the walk begins
-
--- the lowest of n and the numbers listed
-unfoldable pub least : ℕ → List ℕ → ℕ
-least n [] = n
-least n (k ∷ ks) = cond (ltb k (least n ks)) k (least n ks)
-
-abbrev pub orNone : Option (List ℕ) → List ℕ
-orNone none = []
-orNone (some ks) = ks
-
--- the lowest of n and the atom nodes of the atoms listed
-unfoldable pub leastNode : Tables → ℕ → List ℕ → ℕ
-leastNode T n [] = n
-leastNode T n (a ∷ rest) = least (leastNode T n rest) (orNone (atomNodesAt T a))
-
--- the lowest atom node of a changed atom, or the number of nodes
-unfoldable pub lowestEntered : Tables → Interpretation → Evaluation → ℕ
-lowestEntered T J e = leastNode T (nodeCount T) (places (λ a. unlike (present e a) (J a)) 0 (atomCount T))

@@ -30,12 +30,12 @@ use Rattle.kept.specs.CountedSetLaws.{unlike-false}
 use Rattle.kept.specs.Tables.{Tables, atomCount, nodeCount, atomNodesAt}
 use Rattle.kept.specs.Evaluation.{Evaluation, present, held, truth, support, falseRoot, summary, fresh}
 use Rattle.kept.specs.Step.{entered}
-use Rattle.kept.specs.Start.{allEntered, atomTurned, atomUpdated, walkStart, least, orNone, leastNode, lowestEntered}
+use Rattle.kept.specs.Start.{allEntered, atomTurned, atomUpdated, walkStart}
 use Rattle.kept.specs.Dirty.{touchedNode, touched, dirty}
 use Rattle.kept.specs.Walk.{ended, broken, walkFrom, keptWalk}
 use Rattle.kept.specs.Consistent.{Consistent, atomNodesIn, atom-lower}
 use Rattle.kept.specs.HeldLaws.{held-agree, worklist-agree, present-held, candidate-held, entered-held}
-use Rattle.kept.specs.WalkLaws.{waiting, waiting-start, Behind, midway, midway-start, walk-midway}
+use Rattle.kept.specs.WalkLaws.{midway, midway-start, walk-midway}
 
 pub entered-append : (T : Tables) (e : Evaluation) (xs ys : List ℕ) → allEntered T e (xs ++ ys) ≡ andThen (allEntered T e xs) (λ d. allEntered T d ys)
 unfolding allEntered
@@ -224,83 +224,11 @@ module _ (T : Tables) where
           here = λ h. absurd (omega (arith, room));
         })
 
-    -- ---- where it begins: no atom node of a changed atom is below
-
-    least-below : (n j : ℕ) (p : ℕ → Bool) (m i : ℕ) → p j ≡ true → i ≤ j → j < i + m → least n (places p i m) ≤ j
-    unfolding least places
-    least-below n j p zero i e a b = absurd (omega arith)
-    least-below n j p (suc m) i e a b = go (p i) refl (least-below n j p m (i + 1) e)
-      where
-        here : (b : Bool) → ltb i (least n (places p (i + 1) m)) ≡ b → cond b i (least n (places p (i + 1) m)) ≤ i
-        here true q = omega arith
-        here false q = omega (arith, ltb-false i (least n (places p (i + 1) m)) q)
-
-        past : (b : Bool) → ltb i (least n (places p (i + 1) m)) ≡ b → cond b i (least n (places p (i + 1) m)) ≤ least n (places p (i + 1) m)
-        past true q = omega (arith, ltb-true i (least n (places p (i + 1) m)) q)
-        past false q = omega arith
-
-        go : (b : Bool) → p i ≡ b → (i + 1 ≤ j → j < i + 1 + m → least n (places p (i + 1) m) ≤ j) → least n (places p i (suc m)) ≤ j
-        go true q ih =
-            rw (places-yes p i m q)
-            (⊎-elim (λ z. omega (arith, here (ltb i (least n (places p (i + 1) m))) refl))
-            (λ z. omega (arith, past (ltb i (least n (places p (i + 1) m))) refl, ih (omega (arith, z)) (omega arith)))
-            (equal-or i j))
-        go false q ih =
-            rw (places-no p i m q)
-            (⊎-elim (λ z. absurd (true≢false (sym e ∙ ap p (sym z) ∙ q))) (λ z. ih (omega (arith, z)) (omega arith)) (equal-or i j))
-
-    least-most : (n : ℕ) (ks : List ℕ) → least n ks ≤ n
-    unfolding least
-    least-most n [] = omega arith
-    least-most n (k ∷ ks) = go (ltb k (least n ks)) refl (least-most n ks)
-      where
-        go : (b : Bool) → ltb k (least n ks) ≡ b → least n ks ≤ n → cond b k (least n ks) ≤ n
-        go true q h = omega (arith, ltb-true k (least n ks) q)
-        go false q h = h
-
-    least-node : (n j a : ℕ) (p : ℕ → Bool) (m i : ℕ) → p a ≡ true → i ≤ a → a < i + m → i + m ≤ atomCount T → isAtomOf a (nodeAt (T .nodes) j) ≡ true → j < nodeCount T
-        → leastNode T n (places p i m) ≤ j
-    unfolding leastNode places atomNodesOf
-    least-node n j a p zero i e b c d f g = absurd (omega arith)
-    least-node n j a p (suc m) i e b c d f g = go (p i) refl (λ x y. least-node n j a p m (i + 1) e x y (omega arith) f g)
-      where
-        here : (rest : ℕ) → i ≡ a → least rest (orNone (atomNodesAt T i)) ≤ j
-        here rest z = rw (z, good .atom-nodes a (omega arith)) (least-below rest j (λ k. isAtomOf a (nodeAt (T .nodes) k)) (nodeCount T) 0 f (omega arith) (omega arith))
-
-        go : (b : Bool) → p i ≡ b → (i + 1 ≤ a → a < i + 1 + m → leastNode T n (places p (i + 1) m) ≤ j) → leastNode T n (places p i (suc m)) ≤ j
-        go true q ih =
-            rw (places-yes p i m q)
-            (⊎-elim (λ z. here (leastNode T n (places p (i + 1) m)) z)
-            (λ z. omega (arith, least-most (leastNode T n (places p (i + 1) m)) (orNone (atomNodesAt T i)), ih (omega (arith, z)) (omega arith)))
-            (equal-or i a))
-        go false q ih =
-            rw (places-no p i m q)
-            (⊎-elim (λ z. absurd (true≢false (sym e ∙ ap p (sym z) ∙ q))) (λ z. ih (omega (arith, z)) (omega arith)) (equal-or i a))
-
-    touched-node : (j : ℕ) (node : Node) → nodeAt (T .nodes) j ≡ node → j < nodeCount T → touchedNode I J node ≡ true → lowestEntered T J (fresh T I) ≤ j
-    unfolding lowestEntered
-    touched-node j (Atom a) e l h =
-        let b : a < atomCount T = atom-lower T j a (good .node j l) e in
-        least-node (nodeCount T) j a (λ x. unlike (present (fresh T I) x) (J x)) (atomCount T) 0 (rw (present-fresh a b) h) (omega arith) (omega arith) (omega arith) (rw e (eq-eqb a a refl)) l
-    touched-node j False e l h = absurd (true≢false (sym h))
-    touched-node j (Implies x y) e l h = absurd (true≢false (sym h))
-    touched-node j (And x y) e l h = absurd (true≢false (sym h))
-    touched-node j (Or x y) e l h = absurd (true≢false (sym h))
-    touched-node j Unknown e l h = absurd (true≢false (sym h))
-
-    none-behind : Behind T good I J (lowestEntered T J (fresh T I)) 0
-    unfolding touched
-    none-behind j l m = go (touchedNode I J (nodeAt (T .nodes) j)) refl
-      where
-        go : (b : Bool) → touchedNode I J (nodeAt (T .nodes) j) ≡ b → waiting T good I J 0 j ≡ false
-        go true e = absurd (omega (arith, touched-node j (nodeAt (T .nodes) j) refl m e))
-        go false e = waiting-start T good I J j ∙ e
-
     -- the kept walk to J on the evaluation of I goes over the dirty nodes, rising, and ends with the evaluation of J
     pub kept-fresh : keptWalk T J (fresh T I) ≡ ended (places (dirty T I J) 0 (nodeCount T)) (fresh T J)
     unfolding keptWalk
     kept-fresh =
-        ap (λ b. cond b (broken 0) (walkFrom T (lowestEntered T J (fresh T I)) (walkStart T J (atomCount T) (fresh T I)))) no-stray
-        ∙ ap (λ e. walkFrom T (lowestEntered T J (fresh T I)) (walkStart T J (atomCount T) e)) turning-fresh
-        ∙ ap (walkFrom T (lowestEntered T J (fresh T I))) (start-turning (atomCount T) (omega arith) ∙ ap some turning-midway)
-        ∙ walk-midway T good I J (nodeCount T) 0 (suc (nodeCount T)) (lowestEntered T J (fresh T I)) (zero-add (nodeCount T)) (omega arith) none-behind
+        ap (λ b. cond b (broken 0) (walkFrom T (walkStart T J (atomCount T) (fresh T I)))) no-stray
+        ∙ ap (λ e. walkFrom T (walkStart T J (atomCount T) e)) turning-fresh
+        ∙ ap (walkFrom T) (start-turning (atomCount T) (omega arith) ∙ ap some turning-midway)
+        ∙ walk-midway T good I J (nodeCount T) 0 (suc (nodeCount T)) (zero-add (nodeCount T)) (omega arith)

@@ -10,7 +10,8 @@ use Rattle.words.specs.Changed.{unlike}
 use Rattle.readers.specs.declared.Reading.{Reading}
 use Rattle.readers.specs.declared.Reading.the-variants.{Node, Producer, Root, Unknown}
 use Rattle.readers.specs.Reader.{readingOf}
-use Rattle.kept.specs.CountedSet.{andThen, CountedSet, moved, withMember, Lookup, empty, astray, at, lookup}
+use Rattle.kept.specs.CountedSet.{andThen, moved, withMember}
+use Rattle.kept.specs.Worklist.{Worklist, withNode, withoutFirst}
 use Rattle.kept.specs.Tables.{Tables, atomCount, nodeCount, rootCount, headAt, readersAt}
 use Rattle.kept.specs.Seen.{seenBy}
 use Rattle.kept.specs.Evaluation.{Evaluation, truthAt, present, truthWord}
@@ -20,7 +21,7 @@ use Rattle.kept.specs.Parts.{withTruths, withWorklist, withSupport, with
 
 -- node m onto the worklist
 unfoldable pub entered : Tables → ℕ → Evaluation → Option Evaluation
-entered T m e = andThen (withMember (nodeCount T) (e .worklist) m true) (λ w. some (withWorklist e w))
+entered T m e = andThen (withNode (nodeCount T) (e .worklist) m) (λ w. some (withWorklist e w))
 
 -- a producer of atom a: one more or less with a true body
 unfoldable pub supportMoved : Tables → Bool → ℕ → Evaluation → Option Evaluation
@@ -66,16 +67,18 @@ settled T k t e =
 unfoldable pub seen : Tables → Evaluation → ℕ → Option Bool
 seen T e k = seenBy T (present e) (truthAt e) k
 
-abbrev pub settledFrom : Tables → ℕ → Evaluation → Option Bool → Option CountedSet → Stepped
+-- with its truth, and the worklist without it
+abbrev pub settledFrom : Tables → ℕ → Evaluation → Option Bool → Option Worklist → Stepped
 settledFrom T k e none w = fault k
-settledFrom T k e (some t) none = fault k
+settledFrom T k e (some t) none = fault 0
 settledFrom T k e (some t) (some w) = settled T k t (withWorklist e w)
 
-unfoldable pub stepAt : Tables → Evaluation → Lookup → Stepped
-stepAt T e empty = idle
-stepAt T e astray = fault 0
-stepAt T e (at k) = settledFrom T k e (seen T e k) (withMember (nodeCount T) (e .worklist) k false)
+-- node k is the first of the worklist; the number of nodes is none, and what is above it no node
+unfoldable pub stepAt : Tables → Evaluation → ℕ → Stepped
+stepAt T e k =
+    cond (ltb k (nodeCount T)) (settledFrom T k e (seen T e k) (withoutFirst (nodeCount T) (e .worklist)))
+    (cond (eqb k (nodeCount T)) idle (fault 0))
 
--- the lowest node of the worklist; the nodes below i have been gone over
-unfoldable pub step : Tables → ℕ → Evaluation → Stepped
-step T i e = stepAt T e (lookup (nodeCount T) i (e .worklist))
+-- the lowest node of the worklist
+unfoldable pub step : Tables → Evaluation → Stepped
+step T e = stepAt T e (e .worklist .first)

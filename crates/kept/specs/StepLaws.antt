@@ -18,8 +18,10 @@ use Rattle.theory.specs.declared.Node.{Node}
 use Rattle.theory.specs.declared.Node.the-variants.{Atom, False, Implies, And, Or, Unknown}
 use Rattle.words.specs.Changed.{unlike}
 use Rattle.kept.specs.Tabulate.{updated, updated-same}
-use Rattle.kept.specs.CountedSet.{andThen, withMember, at, lookup}
-use Rattle.kept.specs.CountedSetLaws.{unlike-false, unlike-true, member-set, lookup-at}
+use Rattle.kept.specs.CountedSet.{andThen}
+use Rattle.kept.specs.CountedSetLaws.{unlike-false, unlike-true}
+use Rattle.kept.specs.Worklist.{withoutFirst}
+use Rattle.kept.specs.WorklistLaws.{first-is, first-left}
 use Rattle.kept.specs.Tables.{Tables, nodeCount, operandsAt, sound, readersAt}
 use Rattle.kept.specs.Evaluation.{Evaluation, truthAt, present, truthWord, held, truth, support, falseRoot, summary}
 use Rattle.kept.specs.Parts.{withTruths}
@@ -101,20 +103,20 @@ module _ (T : Tables) (good : Consistent T) (v w c : ℕ → Bool) where
           let same : u ≡ v = fun-ext (updated-same v k t (unlike-false (v k) t e)) in
           rw same (ap (took k) (worklist-agree T v off (λ j. off j || false && among k (operandsAt T j)) (support T v) c (falseRoot T v) (λ j i. sym (or-false (off j)))))
 
-  -- node k is found, and taken off the worklist
-  found-held : (i k : ℕ) → i ≤ k → k < nodeCount T → w k ≡ true → ((j : ℕ) → j < k → w j ≡ false) → lookup (nodeCount T) i (start .worklist) ≡ at k
+  -- node k is the first, and leaves the worklist
+  first-held : (k : ℕ) → k < nodeCount T → w k ≡ true → ((j : ℕ) → j < k → w j ≡ false) → start .worklist .first ≡ k
   unfolding held
-  found-held i k b l m h = lookup-at w (nodeCount T) i k b l m h
+  first-held k l m h = first-is w (nodeCount T) k l m h
 
-  off-held : (k : ℕ) (t : Bool) → k < nodeCount T
-      → settledFrom T k start (some t) (withMember (nodeCount T) (start .worklist) k false) ≡ settled T k t (held T v (updated w k false) (support T v) c (falseRoot T v))
+  off-held : (k : ℕ) (t : Bool) → k < nodeCount T → w k ≡ true → ((j : ℕ) → j < k → w j ≡ false)
+      → settledFrom T k start (some t) (withoutFirst (nodeCount T) (start .worklist)) ≡ settled T k t (held T v (updated w k false) (support T v) c (falseRoot T v))
   unfolding held
-  off-held k t l = rw (member-set w (nodeCount T) k false l)
+  off-held k t l m h = rw (first-left w (nodeCount T) k l m h)
 
   -- a step takes the lowest node of the worklist and gives it its truth
-  pub step-summary : (i k : ℕ) → i ≤ k → k < nodeCount T → w k ≡ true → ((j : ℕ) → j < k → w j ≡ false)
-      → step T i (summary T v w c) ≡ took k (summary T (updated v k (truthBy T c v k)) (workAfter T v w k (truthBy T c v k)) c)
+  pub step-summary : (k : ℕ) → k < nodeCount T → w k ≡ true → ((j : ℕ) → j < k → w j ≡ false)
+      → step T (summary T v w c) ≡ took k (summary T (updated v k (truthBy T c v k)) (workAfter T v w k (truthBy T c v k)) c)
   unfolding step stepAt summary
-  step-summary i k b l m h =
-      ap (stepAt T start) (found-held i k b l m h)
-      ∙ rw (seen-held k l) (off-held k (truthBy T c v k) l ∙ settled-held k (truthBy T c v k) l)
+  step-summary k l m h =
+      ap (stepAt T start) (first-held k l m h)
+      ∙ rw (lt-ltb k (nodeCount T) l, seen-held k l) (off-held k (truthBy T c v k) l m h ∙ settled-held k (truthBy T c v k) l)

@@ -11,7 +11,7 @@ use Rattle.words.specs.Next.{next}
 use Rattle.kept.specs.Tables.{Tables, atomCount, nodeCount}
 use Rattle.kept.specs.Evaluation.{Evaluation}
 use Rattle.kept.specs.Step.{Stepped, idle, took, fault, step}
-use Rattle.kept.specs.Start.{walkStart, lowestEntered}
+use Rattle.kept.specs.Start.{walkStart}
 
 -- the nodes gone over, in order, and the evaluation then; or 17, at a place
 pub data Walked : Type 0 where
@@ -22,21 +22,21 @@ abbrev pub after : ℕ → Walked → Walked
 after k (ended ks e) = ended (k ∷ ks) e
 after k (broken j) = broken j
 
-abbrev pub onward : Evaluation → (ℕ → Evaluation → Walked) → Stepped → Walked
+abbrev pub onward : Evaluation → (Evaluation → Walked) → Stepped → Walked
 onward e f idle = ended [] e
-onward e f (took k d) = after k (f (suc k) d)
+onward e f (took k d) = after k (f d)
 onward e f (fault k) = broken k
 
--- from node i on, at most so many steps; nodes are taken rising, so that one more than there are nodes is enough (WalkEnds)
-unfoldable pub walk : Tables → ℕ → ℕ → Evaluation → Walked
-walk T zero i e = ended [] e
-walk T (suc n) i e = onward e (walk T n) (step T i e)
+-- at most so many steps; nodes are taken rising, so that one more than there are nodes is enough (WalkEnds)
+unfoldable pub walk : Tables → ℕ → Evaluation → Walked
+walk T zero e = ended [] e
+walk T (suc n) e = onward e (walk T n) (step T e)
 
-abbrev pub walkFrom : Tables → ℕ → Option Evaluation → Walked
-walkFrom T i none = broken 0
-walkFrom T i (some e) = walk T (suc (nodeCount T)) i e
+abbrev pub walkFrom : Tables → Option Evaluation → Walked
+walkFrom T none = broken 0
+walkFrom T (some e) = walk T (suc (nodeCount T)) e
 
 -- a kept candidate with a member that is no atom is 17, place 0
 unfoldable pub keptWalk : Tables → Interpretation → Evaluation → Walked
 keptWalk T J e =
-    cond (ltb (next 32 (e .candidate) (atomCount T)) (32 * length (e .candidate))) (broken 0) (walkFrom T (lowestEntered T J e) (walkStart T J (atomCount T) e))
+    cond (ltb (next 32 (e .candidate) (atomCount T)) (32 * length (e .candidate))) (broken 0) (walkFrom T (walkStart T J (atomCount T) e))

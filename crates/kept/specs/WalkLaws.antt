@@ -5,12 +5,11 @@ use native.Mathlib.Omega.{arith}
 use native.Mathlib.Nat.{not-suc-le-zero}
 use native.Mathlib.Numerals.{add-one}
 use mathlib.Core.Path.{_≡_, refl, ap, sym, _∙_}
-use mathlib.Core.Logic.{⊎-elim}
-use mathlib.Core.Bool.{true≢false, Bool, true, false, not, cond, _&&_, _||_, or-false, or-true, and-false, or-assoc}
+use mathlib.Core.Bool.{Bool, true, false, not, cond, _&&_, _||_, or-false, or-true, and-false, or-assoc}
 use mathlib.Core.List.{List, [], _∷_, map}
 use lib.Dec.{eqb, ltb, leb}
-use borrow.Author.Tests.{eqb-true, eqb-false, ne-eqb, ltb-true, ltb-false, lt-ltb, le-ltb, le-leb, lt-leb}
-use Rattle.base.specs.Tests.{below-or, neither-left, neither-right}
+use borrow.Author.Tests.{eqb-true, eqb-false, eq-eqb, ne-eqb, ltb-true, ltb-false, lt-ltb, le-ltb, le-leb, lt-leb}
+use Rattle.base.specs.Tests.{neither-left, neither-right}
 use Rattle.base.specs.Each.{Each, map-agree}
 use Rattle.base.specs.Places.{places, places-yes, places-no, count-agree}
 use Rattle.formula.specs.Satisfaction.{Interpretation}
@@ -21,7 +20,8 @@ use Rattle.words.specs.Changed.{unlike}
 use Rattle.readers.specs.Readers.{occurrences}
 use Rattle.kept.specs.Tabulate.{updated, updated-here, updated-there, updated-same, switched, switched-below, switched-from, switched-next}
 use Rattle.kept.specs.SetOfLaws.{ltb-suc}
-use Rattle.kept.specs.CountedSetLaws.{unlike-false, unlike-same, lookup-empty}
+use Rattle.kept.specs.CountedSetLaws.{unlike-false, unlike-same}
+use Rattle.kept.specs.WorklistLaws.{first-none}
 use Rattle.kept.specs.Tables.{Tables, atomCount, nodeCount, rootAt, headAt, bodyAt, operandsAt}
 use Rattle.kept.specs.Evaluation.{Evaluation, held, truth, bodyTrue, supports, support, falseRoot, summary, fresh}
 use Rattle.kept.specs.Step.{idle, took, stepAt, step}
@@ -169,10 +169,10 @@ module _ (T : Tables) (good : Consistent T) where
         truth-lower T J (mixed k) (truth T J) k (good .node k l) (λ o i. switched-below k (truth T I) (truth T J) o i)
         ∙ sym (truth-step T J k l (good .node k l))
 
-    midway-step : (i k : ℕ) → i ≤ k → k < nodeCount T → dirty T I J k ≡ true → step T i (midway k) ≡ took k (midway (suc k))
+    midway-step : (k : ℕ) → k < nodeCount T → dirty T I J k ≡ true → step T (midway k) ≡ took k (midway (suc k))
     unfolding midway workAfter flips
-    midway-step i k b l e =
-        step-summary T good (mixed k) (waiting k) J i k b l (waiting-here k l ∙ e) (waiting-below k)
+    midway-step k l e =
+        step-summary T good (mixed k) (waiting k) J k l (waiting-here k l ∙ e) (waiting-below k)
         ∙ ap (took k) (rw (mixed-truth k l)
         (summary-agree (updated (mixed k) k (truth T J k)) (mixed (suc k)) (workAfter T (mixed k) (waiting k) k (truth T J k)) (waiting (suc k)) J J
         (λ j i. mixed-next k j)
@@ -197,62 +197,38 @@ module _ (T : Tables) (good : Consistent T) where
         (λ j i. rw (le-leb 0 j (omega arith), any-zero (flips T I J) (operandsAt T j)) (sym (or-false (touched T I J j))))
         (λ a i. refl)
 
-    pub waiting-start : (j : ℕ) → waiting 0 j ≡ touched T I J j
-    unfolding waiting
-    waiting-start j = rw (le-leb 0 j (omega arith), any-zero (flips T I J) (operandsAt T j)) (or-false (touched T I J j))
-
     midway-end : midway (nodeCount T) ≡ fresh T J
     unfolding midway mixed fresh
     midway-end =
         summary-agree (mixed (nodeCount T)) (truth T J) (waiting (nodeCount T)) (λ k. false) J J
         (λ j i. switched-below (nodeCount T) (truth T I) (truth T J) j i) (λ j i. waiting-below (nodeCount T) j i) (λ a i. refl)
 
-    fresh-idle : (i : ℕ) → step T i (fresh T J) ≡ idle
+    fresh-idle : step T (fresh T J) ≡ idle
     unfolding step stepAt fresh summary held
-    fresh-idle i = ap (stepAt T (fresh T J)) (lookup-empty (λ k. false) (nodeCount T) i (λ j h. refl))
+    fresh-idle = rw (first-none (λ k. false) (nodeCount T) (λ j h. refl), le-ltb (nodeCount T) (nodeCount T) (omega arith), eq-eqb (nodeCount T) (nodeCount T) refl)
 
-    walk-fresh : (n i : ℕ) → walk T n i (fresh T J) ≡ ended [] (fresh T J)
+    walk-fresh : (n : ℕ) → walk T n (fresh T J) ≡ ended [] (fresh T J)
     unfolding walk
-    walk-fresh zero i = refl
-    walk-fresh (suc n) i = rw (fresh-idle i)
-
-    -- nothing waits below i
-    abbrev pub Behind : ℕ → ℕ → Type 0
-    Behind i k = (j : ℕ) → j < i → j < nodeCount T → waiting k j ≡ false
-
-    behind-next : (k : ℕ) → Behind (suc k) (suc k)
-    behind-next k j l m = waiting-below (suc k) j l
-
-    -- a node that is not dirty enters none
-    behind-skip : (i k : ℕ) → k < nodeCount T → dirty T I J k ≡ false → Behind i k → Behind i (suc k)
-    unfolding flips
-    behind-skip i k l e h j b m =
-        sym (waiting-next k j l m)
-        ∙ rw (updated-same (waiting k) k false (waiting-here k l ∙ e) j, h j b m, unlike-same (truth T I k) (truth T J k) (clean k l e))
-
-    behind-here : (i k : ℕ) → k < nodeCount T → dirty T I J k ≡ true → Behind i k → i ≤ k
-    behind-here i k l e h = ⊎-elim (λ b. absurd (true≢false (sym e ∙ sym (waiting-here k l) ∙ h k b l))) (λ b. b) (below-or k i)
+    walk-fresh zero = refl
+    walk-fresh (suc n) = rw fresh-idle
 
     -- the steps from k on
-    pub walk-midway : (d k n i : ℕ) → k + d ≡ nodeCount T → d ≤ n → Behind i k → walk T n i (midway k) ≡ ended (places (dirty T I J) k d) (fresh T J)
+    pub walk-midway : (d k n : ℕ) → k + d ≡ nodeCount T → d ≤ n → walk T n (midway k) ≡ ended (places (dirty T I J) k d) (fresh T J)
     unfolding places walk
-    walk-midway zero k n i e l h =
+    walk-midway zero k n e l =
         let x : k ≡ nodeCount T = omega arith in
-        rw (x, midway-end) (walk-fresh n i)
-    walk-midway (suc d) k n i e l h = go (dirty T I J k) refl n l (λ n i. walk-midway d (k + 1) n i (omega arith))
+        rw (x, midway-end) (walk-fresh n)
+    walk-midway (suc d) k n e l = go (dirty T I J k) refl n l (λ n. walk-midway d (k + 1) n (omega arith))
       where
         next : midway (suc k) ≡ midway (k + 1)
         next = ap midway (sym (add-one k))
 
-        at-next : (i : ℕ) → Behind i (suc k) → Behind i (k + 1)
-        at-next i h = rw (add-one k) h
-
         go : (b : Bool) → dirty T I J k ≡ b → (n : ℕ) → suc d ≤ n
-            → ((n i : ℕ) → d ≤ n → Behind i (k + 1) → walk T n i (midway (k + 1)) ≡ ended (places (dirty T I J) (k + 1) d) (fresh T J))
-            → walk T n i (midway k) ≡ ended (places (dirty T I J) k (suc d)) (fresh T J)
+            → ((n : ℕ) → d ≤ n → walk T n (midway (k + 1)) ≡ ended (places (dirty T I J) (k + 1) d) (fresh T J))
+            → walk T n (midway k) ≡ ended (places (dirty T I J) k (suc d)) (fresh T J)
         go true p zero m ih = absurd (not-suc-le-zero m)
         go true p (suc n) m ih =
-            rw (midway-step i k (behind-here i k (omega arith) p h) (omega arith) p, next, ih n (suc k) (omega arith) (at-next (suc k) (behind-next k)), places-yes (dirty T I J) k d p)
+            rw (midway-step k (omega arith) p, next, ih n (omega arith), places-yes (dirty T I J) k d p)
         go false p n m ih =
-            ap (walk T n i) (midway-skip k (omega arith) p ∙ next) ∙ ih n i (omega arith) (at-next i (behind-skip i k (omega arith) p h))
+            ap (walk T n) (midway-skip k (omega arith) p ∙ next) ∙ ih n (omega arith)
             ∙ ap (λ ks. ended ks (fresh T J)) (sym (places-no (dirty T I J) k d p))

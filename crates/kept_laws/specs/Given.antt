@@ -7,7 +7,7 @@ use Rattle.kept.specs.SetOf.{words32}
 use Rattle.kept.specs.Tables.{Tables}
 
 abbrev pub worklistAt : Counts → ℕ
-worklistAt t = 16 + t .nodes
+worklistAt t = 8 + t .nodes
 
 abbrev pub supportAt : Counts → ℕ
 supportAt t = worklistAt t + words32 (t .nodes)
@@ -21,8 +21,11 @@ missingAt t = candidateAt t + words32 (t .atoms)
 abbrev pub falseRootsAt : Counts → ℕ
 falseRootsAt t = missingAt t + words32 (t .atoms)
 
+abbrev pub groupsAt : Counts → ℕ
+groupsAt t = falseRootsAt t + words32 (t .roots)
+
 abbrev pub usedBy : Counts → ℕ
-usedBy t = falseRootsAt t + words32 (t .roots)
+usedBy t = groupsAt t + words32 (words32 (t .nodes))
 
 -- no tables but the counts, where a fact depends on nothing else
 abbrev pub bare : Counts → Tables

@@ -9,10 +9,11 @@ use lib.ListN.{length, getD, set, take, drop, List·getD-append}
 use lib.Seq.{set-append-left, getD-append-add, drop-append-seam, take-append-seam, take-append-add, drop-append-add}
 use Rattle.kept.specs.SetOf.{words32}
 use Rattle.kept.specs.CountedSet.{CountedSet}
+use Rattle.kept.specs.Worklist.{Worklist, withFirst}
 use Rattle.kept.specs.Tables.{Tables, atomCount, nodeCount, rootCount}
 use Rattle.kept.specs.Evaluation.{Evaluation, support}
 use Rattle.kept.specs.Parts.{withTruths, withWorklist, withSupport, withCandidate, withFalseRoots}
-use Rattle.kept.specs.Layout.{flat, parts, image, truthsStart, worklistStart, supportStart, candidateStart, missingStart, falseRootsStart, used}
+use Rattle.kept.specs.Layout.{flat, parts, image, truthsStart, worklistStart, supportStart, candidateStart, missingStart, falseRootsStart, groupsStart, used}
 use Rattle.kept.specs.LayoutLaws.{Fits}
 
 -- ---- parts laid end to end
@@ -68,7 +69,13 @@ withMembers s ws = record { members = ws; size = s .size }
 abbrev pub withSize : CountedSet → ℕ → CountedSet
 withSize s n = record { members = s .members; size = n }
 
-module _ (T : Tables) (e : Evaluation) (fits : Fits T e) (unused rest : List ℕ) (eleven : length unused ≡ 11) where
+abbrev pub withOthers : Worklist → CountedSet → Worklist
+withOthers w o = record { first = w .first; others = o; groups = w .groups }
+
+abbrev pub withGroups : Worklist → List ℕ → Worklist
+withGroups w ws = record { first = w .first; others = w .others; groups = ws }
+
+module _ (T : Tables) (e : Evaluation) (fits : Fits T e) (unused rest : List ℕ) (two : length unused ≡ 2) where
   abbrev ps : List (List ℕ)
   ps = parts e unused rest
 
@@ -96,6 +103,10 @@ module _ (T : Tables) (e : Evaluation) (fits : Fits T e) (unused rest : List ℕ
   unfolding start
   at-falseRoots i = omega (arith, fits .truths, fits .worklist, fits .support, fits .candidate, fits .missing)
 
+  at-groups : (i : ℕ) → groupsStart T + i ≡ start ps 8 + i
+  unfolding start
+  at-groups i = omega (arith, fits .truths, fits .worklist, fits .support, fits .candidate, fits .missing, fits .falseRoots)
+
   -- ---- stores
 
   pub store-truth : (k v : ℕ) → k < nodeCount T → set (image e unused rest) (truthsStart + k) v ≡ image (withTruths e (set (e .truths) k v)) unused rest
@@ -103,7 +114,7 @@ module _ (T : Tables) (e : Evaluation) (fits : Fits T e) (unused rest : List ℕ
   store-truth k v l = ap (λ m. set (flat ps) m v) (at-truths k) ∙ flat-set ps 2 k v (omega (arith, fits .truths))
 
   pub store-worklist : (i v : ℕ) → i < words32 (nodeCount T)
-      → set (image e unused rest) (worklistStart T + i) v ≡ image (withWorklist e (withMembers (e .worklist) (set (e .worklist .members) i v))) unused rest
+      → set (image e unused rest) (worklistStart T + i) v ≡ image (withWorklist e (withOthers (e .worklist) (withMembers (e .worklist .others) (set (e .worklist .others .members) i v)))) unused rest
   unfolding image
   store-worklist i v l = ap (λ m. set (flat ps) m v) (at-worklist i) ∙ flat-set ps 3 i v (omega (arith, fits .worklist))
 
@@ -126,7 +137,12 @@ module _ (T : Tables) (e : Evaluation) (fits : Fits T e) (unused rest : List ℕ
   unfolding image
   store-falseRoots i v l = ap (λ m. set (flat ps) m v) (at-falseRoots i) ∙ flat-set ps 7 i v (omega (arith, fits .falseRoots))
 
-  -- the counts in the header
+  pub store-groups : (i v : ℕ) → i < words32 (words32 (nodeCount T))
+      → set (image e unused rest) (groupsStart T + i) v ≡ image (withWorklist e (withGroups (e .worklist) (set (e .worklist .groups) i v))) unused rest
+  unfolding image
+  store-groups i v l = ap (λ m. set (flat ps) m v) (at-groups i) ∙ flat-set ps 8 i v (omega (arith, fits .groups))
+
+  -- the numbers in the header
   pub store-missing-size : (v : ℕ) → set (image e unused rest) 2 v ≡ image (withSupport e (e .support) (withSize (e .missing) v)) unused rest
   unfolding image flat
   store-missing-size v = refl
@@ -135,9 +151,13 @@ module _ (T : Tables) (e : Evaluation) (fits : Fits T e) (unused rest : List ℕ
   unfolding image flat
   store-falseRoots-size v = refl
 
-  pub store-worklist-size : (v : ℕ) → set (image e unused rest) 4 v ≡ image (withWorklist e (withSize (e .worklist) v)) unused rest
+  pub store-worklist-size : (v : ℕ) → set (image e unused rest) 4 v ≡ image (withWorklist e (withOthers (e .worklist) (withSize (e .worklist .others) v))) unused rest
   unfolding image flat
   store-worklist-size v = refl
+
+  pub store-first : (v : ℕ) → set (image e unused rest) 5 v ≡ image (withWorklist e (withFirst (e .worklist) v)) unused rest
+  unfolding image flat
+  store-first v = refl
 
   -- ---- loads
 
@@ -145,7 +165,7 @@ module _ (T : Tables) (e : Evaluation) (fits : Fits T e) (unused rest : List ℕ
   unfolding image
   load-truth k l = ap (λ m. getD (flat ps) m 0) (at-truths k) ∙ flat-get ps 2 k (omega (arith, fits .truths))
 
-  pub load-worklist : (i : ℕ) → i < words32 (nodeCount T) → getD (image e unused rest) (worklistStart T + i) 0 ≡ getD (e .worklist .members) i 0
+  pub load-worklist : (i : ℕ) → i < words32 (nodeCount T) → getD (image e unused rest) (worklistStart T + i) 0 ≡ getD (e .worklist .others .members) i 0
   unfolding image
   load-worklist i l = ap (λ m. getD (flat ps) m 0) (at-worklist i) ∙ flat-get ps 3 i (omega (arith, fits .worklist))
 
@@ -165,18 +185,19 @@ module _ (T : Tables) (e : Evaluation) (fits : Fits T e) (unused rest : List ℕ
   unfolding image
   load-falseRoots i l = ap (λ m. getD (flat ps) m 0) (at-falseRoots i) ∙ flat-get ps 7 i (omega (arith, fits .falseRoots))
 
+  pub load-groups : (i : ℕ) → i < words32 (words32 (nodeCount T)) → getD (image e unused rest) (groupsStart T + i) 0 ≡ getD (e .worklist .groups) i 0
+  unfolding image
+  load-groups i l = ap (λ m. getD (flat ps) m 0) (at-groups i) ∙ flat-get ps 8 i (omega (arith, fits .groups))
+
   -- ---- a set lent as a slice of its own, from a up to b, and given back as y
 
   read-part : (k a b : ℕ) → a + 0 ≡ start ps k + 0 → b - a ≡ length (getD ps k []) → take (b - a) (drop a (image e unused rest)) ≡ getD ps k []
   unfolding image
   read-part k a b p q = let i : a ≡ start ps k = omega arith in rw (q, i) (flat-read ps k)
 
-  lend-part : (k a b : ℕ) (y : List ℕ) → k < 9 → a + 0 ≡ start ps k + 0 → b ≡ a + length (getD ps k []) → take a (image e unused rest) ++ (y ++ drop b (image e unused rest)) ≡ flat (set ps k y)
+  lend-part : (k a b : ℕ) (y : List ℕ) → k < 10 → a + 0 ≡ start ps k + 0 → b ≡ a + length (getD ps k []) → take a (image e unused rest) ++ (y ++ drop b (image e unused rest)) ≡ flat (set ps k y)
   unfolding image
   lend-part k a b y l p q = let i : a ≡ start ps k = omega arith in rw (q, i) (flat-part ps k y l)
-
-  pub read-worklist : take (supportStart T - worklistStart T) (drop (worklistStart T) (image e unused rest)) ≡ e .worklist .members
-  read-worklist = read-part 3 (worklistStart T) (supportStart T) (at-worklist 0) (omega (arith, fits .worklist))
 
   pub read-candidate : take (missingStart T - candidateStart T) (drop (candidateStart T) (image e unused rest)) ≡ e .candidate
   read-candidate = read-part 5 (candidateStart T) (missingStart T) (at-candidate 0) (omega (arith, fits .candidate))
@@ -184,8 +205,11 @@ module _ (T : Tables) (e : Evaluation) (fits : Fits T e) (unused rest : List ℕ
   pub read-missing : take (falseRootsStart T - missingStart T) (drop (missingStart T) (image e unused rest)) ≡ e .missing .members
   read-missing = read-part 6 (missingStart T) (falseRootsStart T) (at-missing 0) (omega (arith, fits .missing))
 
-  pub read-falseRoots : take (used T - falseRootsStart T) (drop (falseRootsStart T) (image e unused rest)) ≡ e .falseRoots .members
-  read-falseRoots = read-part 7 (falseRootsStart T) (used T) (at-falseRoots 0) (omega (arith, fits .falseRoots))
+  pub read-falseRoots : take (groupsStart T - falseRootsStart T) (drop (falseRootsStart T) (image e unused rest)) ≡ e .falseRoots .members
+  read-falseRoots = read-part 7 (falseRootsStart T) (groupsStart T) (at-falseRoots 0) (omega (arith, fits .falseRoots))
+
+  pub read-groups : take (used T - groupsStart T) (drop (groupsStart T) (image e unused rest)) ≡ e .worklist .groups
+  read-groups = read-part 8 (groupsStart T) (used T) (at-groups 0) (omega (arith, fits .groups))
 
   pub lend-candidate : (y : List ℕ)
       → take (candidateStart T) (image e unused rest) ++ (y ++ drop (missingStart T) (image e unused rest)) ≡ image (withCandidate e y (e .missing)) unused rest
