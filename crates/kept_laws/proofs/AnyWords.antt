@@ -22,15 +22,14 @@ use Rattle.words.specs.Next.{next}
 use Rattle.kept.specs.Seen.{seenBy}
 use Rattle.kept.specs.Evaluation.{Evaluation, truth}
 use Rattle.kept.specs.Verdict.{Verdict, verdictOf}
-use Rattle.kept.specs.Start.{walkStart, lowestEntered}
+use Rattle.kept.specs.Start.{walkStart}
 use Rattle.kept.specs.Walk.{Walked, ended, broken, walkFrom, keptWalk}
 use Rattle.kept.specs.Check as check
 use Rattle.kept.specs.Check.{entry, seenEntry, nodeEntry, producerEntry, rootEntry, tablesAdmission, freshResult, keptResult, isKept, result}
 use Rattle.kept.specs.Layout.{image, section, ofWords, written, used, listed}
 use Rattle.kept.specs.LayoutLaws.{Fits, room, section-rest, behind-image, length-image, length-unused, fits-of, fits-fresh}
 use Rattle.kept_laws.specs.FitsLaws.{start-fits}
-use Rattle.kept_laws.specs.StartChanged.{lowest-most}
-use Rattle.kept_laws.specs.WalkEnds.{Rises, walk-ends}
+use Rattle.kept_laws.specs.WalkEnds.{Rises, rises-lower, walk-ends}
 use Rattle.kept.specs.Candidate.{Candidate, atomsOf}
 use Rattle.kept.specs.Tests.{tests}
 use Rattle.kept.specs.Outcome.{accepted, refused, Outcome, cleared, concluded, outcomeAt, outcome}
@@ -40,22 +39,22 @@ module _ (T : Tables) where
   -- ---- the kept walk
 
   pub record Ends (J : Interpretation) (e : Evaluation) (ks : List ℕ) (d : Evaluation) : Type 0 where
-    pub rises : Rises T (lowestEntered T J e) (nodeCount T) ks
-    pub finished : d .worklist .size ≡ 0
+    pub rises : Rises T 0 (nodeCount T) ks
+    pub finished : d .worklist .first ≡ nodeCount T
     pub fits : Fits T d
 
   module _ (J : Interpretation) (e : Evaluation) (f : Fits T e) (ks : List ℕ) (d : Evaluation) where
-    from-ends : (o : Option Evaluation) → walkStart T J (atomCount T) e ≡ o → walkFrom T (lowestEntered T J e) o ≡ ended ks d → Ends J e ks d
+    from-ends : (o : Option Evaluation) → walkStart T J (atomCount T) e ≡ o → walkFrom T o ≡ ended ks d → Ends J e ks d
     from-ends none p h = let z : _≡_ {A = ℕ} 0 1 = cc in absurd (omega arith)
     from-ends (some s) p h =
-        let r = walk-ends T (suc (nodeCount T)) (lowestEntered T J e) s d ks (start-fits T J (atomCount T) e s p f) (lowest-most T J e) (omega arith) h in
-        record { rises = r .0; finished = r .1; fits = r .2 }
+        let r = walk-ends T (suc (nodeCount T)) s d ks (start-fits T J (atomCount T) e s p f) (omega arith, omega arith) h in
+        record { rises = rises-lower T 0 (s .worklist .first) (nodeCount T) ks (omega arith) (r .0); finished = r .1; fits = r .2 }
 
     pub kept-ends : keptWalk T J e ≡ ended ks d → Ends J e ks d
     unfolding keptWalk
     kept-ends h = go (ltb (next 32 (e .candidate) (atomCount T)) (32 * length (e .candidate))) h
       where
-        go : (b : Bool) → cond b (broken 0) (walkFrom T (lowestEntered T J e) (walkStart T J (atomCount T) e)) ≡ ended ks d → Ends J e ks d
+        go : (b : Bool) → cond b (broken 0) (walkFrom T (walkStart T J (atomCount T) e)) ≡ ended ks d → Ends J e ks d
         go true h = let z : _≡_ {A = ℕ} 0 1 = cc in absurd (omega arith)
         go false h = from-ends (walkStart T J (atomCount T) e) refl h
 
@@ -138,11 +137,11 @@ module _ (T : Tables) where
     written-keeps : (v : Verdict) (n : ℕ) (d : Evaluation) → Fits T d → Keeps ws (record { answer = accepted v n; words = written T ws d })
     unfolding written
     written-keeps v n d f =
-        let eleven : length (section T ws 1) ≡ 11 = length-unused T ws (omega (arith, room T)) in
-        let behind : drop (used T) (image d (section T ws 1) (section T ws 8)) ≡ drop (used T) ws = behind-image T d f (section T ws 1) (section T ws 8) eleven ∙ section-rest T ws in
+        let two : length (section T ws 1) ≡ 2 = length-unused T ws (omega (arith, room T)) in
+        let behind : drop (used T) (image d (section T ws 1) (section T ws 9)) ≡ drop (used T) ws = behind-image T d f (section T ws 1) (section T ws 9) two ∙ section-rest T ws in
         record {
-          long = length-image T d f (section T ws 1) (section T ws 8) eleven ∙ ap (λ n. used T + n) (ap length (section-rest T ws) ∙ length-drop (used T) ws) ∙ (omega (arith, room T));
-          past = sym (deeper (image d (section T ws 1) (section T ws 8))) ∙ ap (drop (listed T - used T)) behind ∙ deeper ws;
+          long = length-image T d f (section T ws 1) (section T ws 9) two ∙ ap (λ n. used T + n) (ap length (section-rest T ws) ∙ length-drop (used T) ws) ∙ (omega (arith, room T));
+          past = sym (deeper (image d (section T ws 1) (section T ws 9))) ∙ ap (drop (listed T - used T)) behind ∙ deeper ws;
           refusal = λ r e. let z : _≡_ {A = ℕ} 0 1 = cc in absurd (omega arith);
         }
       where

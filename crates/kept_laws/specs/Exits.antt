@@ -3,13 +3,14 @@
 use Prim.Native.Nat.{ℕ, zero, suc, _+_, _-_, _<_, _≤_}
 use native.Mathlib.Numerals.{add-one}
 use native.Mathlib.Omega.{arith}
-use mathlib.Core.Path.{_≡_, refl}
-use mathlib.Core.Bool.{true, false}
+use mathlib.Core.Path.{_≡_, refl, ap, _∙_}
+use mathlib.Core.Bool.{Bool, true, false}
 use mathlib.Core.Option.{some, none}
 use borrow.Author.Tests.{eq-eqb, ne-eqb, lt-ltb, le-ltb}
 use Rattle.words.specs.Next.{next}
 use Rattle.kept.specs.CountedSet.{CountedSet, moved, empty, astray, at, lookup}
 use Rattle.kept.specs.Evaluation.{Evaluation}
+use Rattle.kept.specs.Worklist.{withoutFirst}
 use Rattle.kept.specs.Step.{fault, idle, seen, stepAt, step}
 use Rattle.kept.specs.Tables.{Tables, nodeCount}
 
@@ -50,15 +51,19 @@ module _ (n i : ℕ) (s : CountedSet) where
 
 -- ---- a step
 
-module _ (T : Tables) (i : ℕ) (e : Evaluation) where
-  pub step-idle : lookup (nodeCount T) i (e .worklist) ≡ empty → step T i e ≡ idle
+module _ (T : Tables) (e : Evaluation) where
+  pub step-idle : e .worklist .first ≡ nodeCount T → step T e ≡ idle
   unfolding step stepAt
-  step-idle h = rw h
+  step-idle h = rw (h, le-ltb (nodeCount T) (nodeCount T) (omega arith), eq-eqb (nodeCount T) (nodeCount T) refl)
 
-  pub step-astray : lookup (nodeCount T) i (e .worklist) ≡ astray → step T i e ≡ fault 0
+  pub step-astray : nodeCount T < e .worklist .first → step T e ≡ fault 0
   unfolding step stepAt
-  step-astray h = rw h
+  step-astray h = rw (le-ltb (e .worklist .first) (nodeCount T) (omega arith), ne-eqb (e .worklist .first) (nodeCount T) (λ z. omega (arith, z)))
 
-  pub step-unseen : (k : ℕ) → lookup (nodeCount T) i (e .worklist) ≡ at k → seen T e k ≡ none → step T i e ≡ fault k
+  pub step-unseen : (k : ℕ) → e .worklist .first ≡ k → k < nodeCount T → seen T e k ≡ none → step T e ≡ fault k
   unfolding step stepAt
-  step-unseen k h s = rw (h, s)
+  step-unseen k h l s = ap (stepAt T e) h ∙ rw (lt-ltb k (nodeCount T) l, s)
+
+  pub step-stuck : (k : ℕ) (t : Bool) → e .worklist .first ≡ k → k < nodeCount T → seen T e k ≡ some t → withoutFirst (nodeCount T) (e .worklist) ≡ none → step T e ≡ fault 0
+  unfolding step stepAt
+  step-stuck k t h l s o = ap (stepAt T e) h ∙ rw (lt-ltb k (nodeCount T) l, s, o)

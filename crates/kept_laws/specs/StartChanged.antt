@@ -8,7 +8,7 @@ use mathlib.Core.List.{List, [], _∷_}
 use mathlib.Core.Option.{Option, some, none}
 use lib.Dec.{eqb, ltb}
 use lib.ListN.{length, getD}
-use borrow.Author.Tests.{ne-eqb, ltb-true, ltb-false, le-ltb}
+use borrow.Author.Tests.{ne-eqb}
 use Rattle.base.specs.Places.{places, places-yes, places-no, places-agree}
 use Rattle.formula.specs.Satisfaction.{Interpretation}
 use Rattle.words.specs.Changed.{unlike}
@@ -20,7 +20,8 @@ use Rattle.kept.specs.Tables.{Tables, atomCount, nodeCount, atomNodesAt}
 use Rattle.kept.specs.Evaluation.{Evaluation, present}
 use Rattle.kept.specs.Parts.{withWorklist, withCandidate}
 use Rattle.kept.specs.Step.{entered}
-use Rattle.kept.specs.Start.{allEntered, atomTurned, walkStart, least, orNone, leastNode, lowestEntered}
+use Rattle.kept.specs.Start.{allEntered, atomTurned, walkStart}
+use Rattle.kept.specs.Worklist.{withNode}
 use Rattle.kept.specs.LayoutLaws.{Fits}
 use Rattle.kept_laws.specs.FitsLaws.{atom-fits}
 use Rattle.kept_laws.specs.StartFrom.{startFrom, start-from, start-jump, start-turn}
@@ -29,7 +30,7 @@ module _ (T : Tables) where
   entered-candidate : (m : ℕ) (e d : Evaluation) → entered T m e ≡ some d → d .candidate ≡ e .candidate
   unfolding entered
   entered-candidate m e d h =
-      let p = then-some (withMember (nodeCount T) (e .worklist) m true) (λ w. some (withWorklist e w)) d h in
+      let p = then-some (withNode (nodeCount T) (e .worklist) m) (λ w. some (withWorklist e w)) d h in
       ap (λ y. y .candidate) (sym (some-is (withWorklist e (p .0)) d (p .2)))
 
   all-candidate : (e d : Evaluation) (ks : List ℕ) → allEntered T e ks ≡ some d → d .candidate ≡ e .candidate
@@ -94,61 +95,3 @@ module _ (T : Tables) where
     -- the walk's start is the changed atoms turned, rising
     pub start-changed : (e : Evaluation) → Fits T e → walkStart T J (atomCount T) e ≡ allTurned (places (differs e) 0 (atomCount T)) e
     start-changed e f = sym (start-from T J (atomCount T) e) ∙ start-places (atomCount T) 0 e f (omega arith)
-
--- ---- where it begins
-
--- one number more, and the list from its front
-module _ where
-  lower : ℕ → ℕ → ℕ
-  lower k n = cond (ltb k n) k n
-
-  lower-swap : (j k n : ℕ) → lower j (lower k n) ≡ lower k (lower j n)
-  unfolding lower
-  lower-swap j k n = go (ltb j n) refl (ltb k n) refl (ltb j k) refl (ltb k j) refl
-    where
-      go : (a : Bool) → ltb j n ≡ a → (b : Bool) → ltb k n ≡ b → (c : Bool) → ltb j k ≡ c → (d : Bool) → ltb k j ≡ d
-          → cond (ltb j (cond b k n)) j (cond b k n) ≡ cond (ltb k (cond a j n)) k (cond a j n)
-      go true p true q true r true s = absurd (omega (arith, ltb-true j k r, ltb-true k j s))
-      go true p true q true r false s = rw (r, s)
-      go true p true q false r true s = rw (r, s)
-      go true p true q false r false s = let e : j ≡ k = omega (arith, ltb-false j k r, ltb-false k j s) in rw (r, s, e)
-      go true p false q c r d s = rw (p, le-ltb k j (omega (arith, ltb-true j n p, ltb-false k n q)))
-      go false p true q c r d s = rw (q, le-ltb j k (omega (arith, ltb-true k n q, ltb-false j n p)))
-      go false p false q c r d s = rw (p, q)
-
-pub least-more : (n k : ℕ) (ks : List ℕ) → least n (k ∷ ks) ≡ least (cond (ltb k n) k n) ks
-unfolding least lower
-least-more n k [] = refl
-least-more n k (j ∷ ks) = lower-swap k j (least n ks) ∙ ap (lower j) (least-more n k ks)
-
-least-most : (n : ℕ) (ks : List ℕ) → least n ks ≤ n
-unfolding least
-least-most n [] = omega arith
-least-most n (k ∷ ks) = go (ltb k (least n ks)) refl (least-most n ks)
-  where
-    go : (b : Bool) → ltb k (least n ks) ≡ b → least n ks ≤ n → cond b k (least n ks) ≤ n
-    go true q h = omega (arith, ltb-true k (least n ks) q)
-    go false q h = h
-
-least-both : (n : ℕ) (js ks : List ℕ) → least (least n js) ks ≡ least (least n ks) js
-unfolding least lower
-least-both n [] ks = refl
-least-both n (j ∷ js) ks = sym (least-more (least n js) j ks) ∙ ap (lower j) (least-both n js ks)
-
-module _ (T : Tables) where
-  -- one atom more, and the list from its front
-  pub least-node-more : (n a : ℕ) (rest : List ℕ) → leastNode T n (a ∷ rest) ≡ leastNode T (least n (orNone (atomNodesAt T a))) rest
-  unfolding leastNode
-  least-node-more n a [] = refl
-  least-node-more n a (b ∷ rest) =
-      least-both (leastNode T n rest) (orNone (atomNodesAt T b)) (orNone (atomNodesAt T a))
-      ∙ ap (λ m. least m (orNone (atomNodesAt T b))) (least-node-more n a rest)
-
-  least-node-most : (n : ℕ) (atoms : List ℕ) → leastNode T n atoms ≤ n
-  unfolding leastNode
-  least-node-most n [] = omega arith
-  least-node-most n (a ∷ rest) = omega (arith, least-most (leastNode T n rest) (orNone (atomNodesAt T a)), least-node-most n rest)
-
-  pub lowest-most : (J : Interpretation) (e : Evaluation) → lowestEntered T J e ≤ nodeCount T
-  unfolding lowestEntered
-  lowest-most J e = least-node-most (nodeCount T) (places (λ a. unlike (present e a) (J a)) 0 (atomCount T))

@@ -33,17 +33,14 @@ module _ (T : Tables) where
   after-more n m (broken place) = refl
 
   -- a step was made: one node more
-  pub walk-more : (n i m : ℕ) (e d : Evaluation) → i ≤ nodeCount T → step T i e ≡ took m d
-      → resumed T n (walk T (suc (nodeCount T)) i e) ≡ resumed T (n + 1) (walk T (suc (nodeCount T)) (m + 1) d)
-  walk-more n i m e d l h =
-      let q : suc m ≡ m + 1 = omega arith in
-      ap (resumed T n) (walk-on T i m e d l h) ∙ after-more n m (walk T (suc (nodeCount T)) (suc m) d) ∙ ap (λ j. resumed T (n + 1) (walk T (suc (nodeCount T)) j d)) q
+  pub walk-more : (n m : ℕ) (e d : Evaluation) → step T e ≡ took m d → resumed T n (walk T (suc (nodeCount T)) e) ≡ resumed T (n + 1) (walk T (suc (nodeCount T)) d)
+  walk-more n m e d h = ap (resumed T n) (walk-on T m e d h) ∙ after-more n m (walk T (suc (nodeCount T)) d)
 
   -- the worklist is empty, or 17
-  pub walk-done : (n i : ℕ) (e : Evaluation) → step T i e ≡ idle → resumed T n (walk T (suc (nodeCount T)) i e) ≡ concluded (verdictOf T e) n e
+  pub walk-done : (n : ℕ) (e : Evaluation) → step T e ≡ idle → resumed T n (walk T (suc (nodeCount T)) e) ≡ concluded (verdictOf T e) n e
   unfolding resumed walk
-  walk-done n i e h = rw (h, add-zero n)
+  walk-done n e h = rw (h, add-zero n)
 
-  pub walk-stop : (n i place : ℕ) (e : Evaluation) → step T i e ≡ fault place → resumed T n (walk T (suc (nodeCount T)) i e) ≡ refused (BadEntry place)
+  pub walk-stop : (n place : ℕ) (e : Evaluation) → step T e ≡ fault place → resumed T n (walk T (suc (nodeCount T)) e) ≡ refused (BadEntry place)
   unfolding resumed walk
-  walk-stop n i place e h = rw h
+  walk-stop n place e h = rw h
