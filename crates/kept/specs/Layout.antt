@@ -19,7 +19,7 @@ cut (n ∷ ns) ws = take n ws ∷ cut ns (drop n ws)
 -- a header of 8 words, the last 2 unused; then truth, worklist, support, candidate, missing atoms, false roots, groups of the worklist; the rest is unused
 abbrev pub lengths : Tables → List ℕ
 lengths T =
-    6 ∷ 2 ∷ nodeCount T ∷ words32 (nodeCount T) ∷ atomCount T ∷ words32 (atomCount T) ∷ words32 (atomCount T) ∷ words32 (rootCount T) ∷ words32 (words32 (nodeCount T)) ∷ []
+    6 ∷ 2 ∷ nodeCount T ∷ words32 (nodeCount T) ∷ atomCount T ∷ words32 (atomCount T) ∷ words32 (atomCount T) ∷ words32 (rootCount T) ∷ words32 (nodeCount T) ∷ []
 
 abbrev pub header : Evaluation → List ℕ
 header e = e .state ∷ e .stamp ∷ e .missing .size ∷ e .falseRoots .size ∷ e .worklist .others .size ∷ e .worklist .first ∷ []
@@ -76,7 +76,7 @@ abbrev pub groupsStart : Tables → ℕ
 groupsStart T = falseRootsStart T + words32 (rootCount T)
 
 abbrev pub used : Tables → ℕ
-used T = groupsStart T + words32 (words32 (nodeCount T))
+used T = groupsStart T + words32 (nodeCount T)
 
 -- the listed length of lent buffer 7
 abbrev pub listed : Tables → ℕ

@@ -50,7 +50,7 @@ pub record Fits (T : Tables) (e : Evaluation) : Type 0 where
   pub candidate : length (e .candidate) ≡ words32 (atomCount T)
   pub missing : length (e .missing .members) ≡ words32 (atomCount T)
   pub falseRoots : length (e .falseRoots .members) ≡ words32 (rootCount T)
-  pub groups : length (e .worklist .groups) ≡ words32 (words32 (nodeCount T))
+  pub groups : length (e .worklist .groups) ≡ words32 (nodeCount T)
 
 -- document 01's length is enough
 pub room : (T : Tables) → used T ≤ listed T
@@ -115,7 +115,7 @@ module _ (T : Tables) (ws : List ℕ) (long : used T ≤ length ws) where
   pub image-of : image (ofWords T ws) (section T ws 1) (section T ws 9) ≡ ws
   unfolding image ofWords cut flat
   image-of =
-      ap (λ h. h ++ flat (cut (2 ∷ nodeCount T ∷ words32 (nodeCount T) ∷ atomCount T ∷ words32 (atomCount T) ∷ words32 (atomCount T) ∷ words32 (rootCount T) ∷ words32 (words32 (nodeCount T)) ∷ []) (drop 6 ws))) (first ws (omega arith))
+      ap (λ h. h ++ flat (cut (2 ∷ nodeCount T ∷ words32 (nodeCount T) ∷ atomCount T ∷ words32 (atomCount T) ∷ words32 (atomCount T) ∷ words32 (rootCount T) ∷ words32 (nodeCount T) ∷ []) (drop 6 ws))) (first ws (omega arith))
       ∙ flat-cut (lengths T) ws
 
   pub length-unused : length (section T ws 1) ≡ 2
@@ -132,7 +132,7 @@ module _ (T : Tables) (ws : List ℕ) (long : used T ≤ length ws) where
         candidate = length-take-le (words32 (atomCount T)) _ (simp (drop-drop, length-drop) (omega arith));
         missing = length-take-le (words32 (atomCount T)) _ (simp (drop-drop, length-drop) (omega arith));
         falseRoots = length-take-le (words32 (rootCount T)) _ (simp (drop-drop, length-drop) (omega arith));
-        groups = length-take-le (words32 (words32 (nodeCount T))) _ (simp (drop-drop, length-drop) (omega arith));
+        groups = length-take-le (words32 (nodeCount T)) _ (simp (drop-drop, length-drop) (omega arith));
       }
 
 -- ---- the evaluations of a series
@@ -147,7 +147,7 @@ fits-fresh T I =
       candidate = length-setOf I (atomCount T);
       missing = length-setOf _ (atomCount T);
       falseRoots = length-setOf (falseRoot T (truth T I)) (rootCount T);
-      groups = length-setOf _ (words32 (nodeCount T));
+      groups = length-setOf _ (nodeCount T);
     }
 
 pub fits-zeroed : (T : Tables) → Fits T (zeroed T)
@@ -160,7 +160,7 @@ fits-zeroed T =
       candidate = length-replicate (words32 (atomCount T)) 0;
       missing = length-replicate (words32 (atomCount T)) 0;
       falseRoots = length-replicate (words32 (rootCount T)) 0;
-      groups = length-replicate (words32 (words32 (nodeCount T))) 0;
+      groups = length-replicate (words32 (nodeCount T)) 0;
     }
 
 -- the words of a zeroed evaluation are 0

@@ -13,7 +13,7 @@ use Rattle.words.specs.Next.{next}
 use Rattle.kept.specs.SetOf.{words32, setOf}
 use Rattle.kept.specs.CountedSet.{CountedSet, andThen, countedSet, withMember}
 
--- first: the lowest node, or the number of nodes if none waits; groups: which words of the others are not 0
+-- first: the lowest node, or the number of nodes if none waits; groups: which words of the others are not 0, in as many words
 pub record Worklist : Type 0 where
   pub first : ℕ
   pub others : CountedSet
@@ -71,5 +71,5 @@ worklistOf w n =
     record {
       first = lowest w 0 n;
       others = countedSet (butLowest w n) n;
-      groups = setOf (filled (setOf (butLowest w n) n)) (words32 n);
+      groups = setOf (filled (setOf (butLowest w n) n)) n;
     }

@@ -30,11 +30,11 @@ use Rattle.kept.specs.Worklist.{Worklist, behind, withNode, filled, adva
 -- ---- a worklist by its first node and the test of the others
 
 unfoldable listed : ℕ → (ℕ → Bool) → ℕ → Worklist
-listed f r n = record { first = f; others = countedSet r n; groups = setOf (filled (setOf r n)) (words32 n) }
+listed f r n = record { first = f; others = countedSet r n; groups = setOf (filled (setOf r n)) n }
 
 listed-same : (f : ℕ) (r r′ : ℕ → Bool) (n : ℕ) → ((j : ℕ) → j < n → r j ≡ r′ j) → listed f r n ≡ listed f r′ n
 unfolding listed
-listed-same f r r′ n h = λ i. record { first = f; others = counted-agree r r′ n h i; groups = setOf (filled (setOf-agree r r′ n h i)) (words32 n) }
+listed-same f r r′ n h = λ i. record { first = f; others = counted-agree r r′ n h i; groups = setOf (filled (setOf-agree r r′ n h i)) n }
 
 -- f is the lowest place of w, and r holds at the others
 listed-is : (w : ℕ → Bool) (n f : ℕ) (r : ℕ → Bool) → Lowest w 0 n f → ((j : ℕ) → j < n → r j ≡ w j && not (eqb j f)) → listed f r n ≡ worklistOf w n
@@ -85,30 +85,30 @@ module _ (r : ℕ → Bool) (n m : ℕ) (l : m < n) where
 
   -- only the word of m may change
   filled-changed : (x y : Bool) → y ≡ filled (setOf (updated r m x) n) (m / 32)
-      → setOf (updated (filled (setOf r n)) (m / 32) y) (words32 n) ≡ setOf (filled (setOf (updated r m x) n)) (words32 n)
+      → setOf (updated (filled (setOf r n)) (m / 32) y) n ≡ setOf (filled (setOf (updated r m x) n)) n
   filled-changed x y e =
-      setOf-agree (updated (filled (setOf r n)) (m / 32) y) (filled (setOf (updated r m x) n)) (words32 n)
+      setOf-agree (updated (filled (setOf r n)) (m / 32) y) (filled (setOf (updated r m x) n)) n
       (λ q i. updated-is (filled (setOf r n)) (filled (setOf (updated r m x) n)) (m / 32) y e (filled-other x) q)
 
   filled-here : (f : ℕ → Bool) → f m ≡ true → filled (setOf f n) (m / 32) ≡ true
   filled-here f e = filled-member (setOf f n) m (member-below f n m l ∙ e)
 
-  groups-in : inserted 32 (setOf (filled (setOf r n)) (words32 n)) (m / 32) ≡ setOf (filled (setOf (updated r m true) n)) (words32 n)
+  groups-in : inserted 32 (setOf (filled (setOf r n)) n) (m / 32) ≡ setOf (filled (setOf (updated r m true) n)) n
   groups-in =
-      setOf-inserted (filled (setOf r n)) (words32 n) (m / 32) (omega arith)
+      setOf-inserted (filled (setOf r n)) n (m / 32) (omega arith)
       ∙ filled-changed true true (sym (filled-here (updated r m true) (updated-here r m true)))
 
   groups-out : r m ≡ true
-      → cond (filled (setOf (updated r m false) n) (m / 32)) (setOf (filled (setOf r n)) (words32 n)) (removed 32 (setOf (filled (setOf r n)) (words32 n)) (m / 32))
-      ≡ setOf (filled (setOf (updated r m false) n)) (words32 n)
+      → cond (filled (setOf (updated r m false) n) (m / 32)) (setOf (filled (setOf r n)) n) (removed 32 (setOf (filled (setOf r n)) n) (m / 32))
+      ≡ setOf (filled (setOf (updated r m false) n)) n
   groups-out e = go (filled (setOf (updated r m false) n) (m / 32)) refl
     where
       go : (y : Bool) → filled (setOf (updated r m false) n) (m / 32) ≡ y
-          → cond y (setOf (filled (setOf r n)) (words32 n)) (removed 32 (setOf (filled (setOf r n)) (words32 n)) (m / 32)) ≡ setOf (filled (setOf (updated r m false) n)) (words32 n)
+          → cond y (setOf (filled (setOf r n)) n) (removed 32 (setOf (filled (setOf r n)) n) (m / 32)) ≡ setOf (filled (setOf (updated r m false) n)) n
       go true p =
-          ap (λ f. setOf f (words32 n)) (sym (fun-ext (updated-same (filled (setOf r n)) (m / 32) true (filled-here r e))))
+          ap (λ f. setOf f n) (sym (fun-ext (updated-same (filled (setOf r n)) (m / 32) true (filled-here r e))))
           ∙ filled-changed false true (sym p)
-      go false p = setOf-removed (filled (setOf r n)) (words32 n) (m / 32) (omega arith) ∙ filled-changed false false (sym p)
+      go false p = setOf-removed (filled (setOf r n)) n (m / 32) (omega arith) ∙ filled-changed false false (sym p)
 
   behind-set : (f : ℕ) → behind n (listed f r n) m ≡ some (listed f (updated r m true) n)
   unfolding behind listed
@@ -211,8 +211,8 @@ module _ (r : ℕ → Bool) (n k g : ℕ) (h : (j : ℕ) → j ≤ k → r j ≡
     here : r g ≡ true
     here = lg .here (omega arith)
 
-    next-group : next 32 (setOf (filled (setOf r n)) (words32 n)) (k / 32) ≡ g / 32
-    next-group = next-found (filled (setOf r n)) (words32 n) (k / 32) (g / 32) (omega arith) (omega arith) (filled-here r n g b r here)
+    next-group : next 32 (setOf (filled (setOf r n)) n) (k / 32) ≡ g / 32
+    next-group = next-found (filled (setOf r n)) n (k / 32) (g / 32) (omega arith) (omega arith) (filled-here r n g b r here)
         (λ q c. filled-none r n q (λ j e. lg .before j (omega arith) (omega arith)))
 
     next-node : next 32 (setOf r n) (32 * (g / 32)) ≡ g

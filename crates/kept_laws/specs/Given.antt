@@ -25,7 +25,7 @@ abbrev pub groupsAt : Counts → ℕ
 groupsAt t = falseRootsAt t + words32 (t .roots)
 
 abbrev pub usedBy : Counts → ℕ
-usedBy t = groupsAt t + words32 (words32 (t .nodes))
+usedBy t = groupsAt t + words32 (t .nodes)
 
 -- no tables but the counts, where a fact depends on nothing else
 abbrev pub bare : Counts → Tables

@@ -11,3 +11,4 @@ pub mod Turns
 pub mod Written
 pub mod Wrote
 pub mod Given
+pub mod Within

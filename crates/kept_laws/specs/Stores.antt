@@ -137,7 +137,7 @@ module _ (T : Tables) (e : Evaluation) (fits : Fits T e) (unused rest : List ℕ
   unfolding image
   store-falseRoots i v l = ap (λ m. set (flat ps) m v) (at-falseRoots i) ∙ flat-set ps 7 i v (omega (arith, fits .falseRoots))
 
-  pub store-groups : (i v : ℕ) → i < words32 (words32 (nodeCount T))
+  pub store-groups : (i v : ℕ) → i < words32 (nodeCount T)
       → set (image e unused rest) (groupsStart T + i) v ≡ image (withWorklist e (withGroups (e .worklist) (set (e .worklist .groups) i v))) unused rest
   unfolding image
   store-groups i v l = ap (λ m. set (flat ps) m v) (at-groups i) ∙ flat-set ps 8 i v (omega (arith, fits .groups))
@@ -185,7 +185,7 @@ module _ (T : Tables) (e : Evaluation) (fits : Fits T e) (unused rest : List ℕ
   unfolding image
   load-falseRoots i l = ap (λ m. getD (flat ps) m 0) (at-falseRoots i) ∙ flat-get ps 7 i (omega (arith, fits .falseRoots))
 
-  pub load-groups : (i : ℕ) → i < words32 (words32 (nodeCount T)) → getD (image e unused rest) (groupsStart T + i) 0 ≡ getD (e .worklist .groups) i 0
+  pub load-groups : (i : ℕ) → i < words32 (nodeCount T) → getD (image e unused rest) (groupsStart T + i) 0 ≡ getD (e .worklist .groups) i 0
   unfolding image
   load-groups i l = ap (λ m. getD (flat ps) m 0) (at-groups i) ∙ flat-get ps 8 i (omega (arith, fits .groups))
 

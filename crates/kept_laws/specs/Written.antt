@@ -70,7 +70,7 @@ module _ (T : Tables) (ws : List ℕ) (long : used T ≤ length ws) where
     unfolding written
     put-falseRoots = stores.store-falseRoots T e fits (section T ws 1) (section T ws 9) (length-unused T ws long)
 
-    pub put-groups : (i v : ℕ) → i < words32 (words32 (nodeCount T))
+    pub put-groups : (i v : ℕ) → i < words32 (nodeCount T)
         → set (written T ws e) (groupsStart T + i) v ≡ written T ws (withWorklist e (withGroups (e .worklist) (set (e .worklist .groups) i v)))
     unfolding written
     put-groups = stores.store-groups T e fits (section T ws 1) (section T ws 9) (length-unused T ws long)
@@ -118,7 +118,7 @@ module _ (T : Tables) (ws : List ℕ) (long : used T ≤ length ws) where
     pub get-falseRoots : (i : ℕ) → i < words32 (rootCount T) → getD ws (falseRootsStart T + i) 0 ≡ getD (held .falseRoots .members) i 0
     get-falseRoots i l = here (falseRootsStart T + i) ∙ stores.load-falseRoots T held (fits-of T ws long) (section T ws 1) (section T ws 9) (length-unused T ws long) i l
 
-    pub get-groups : (i : ℕ) → i < words32 (words32 (nodeCount T)) → getD ws (groupsStart T + i) 0 ≡ getD (held .worklist .groups) i 0
+    pub get-groups : (i : ℕ) → i < words32 (nodeCount T) → getD ws (groupsStart T + i) 0 ≡ getD (held .worklist .groups) i 0
     get-groups i l = here (groupsStart T + i) ∙ stores.load-groups T held (fits-of T ws long) (section T ws 1) (section T ws 9) (length-unused T ws long) i l
 
   -- ---- a set lent as a slice of its own

@@ -36,16 +36,16 @@ module _ (operands : List ℕ) (first : ℕ) where
         last : i ≡ j → trueIn kept (getD operands i 0) ≡ t
         last e = rw e p
 
-    pub true-more : (j : ℕ) → AllAre operands kept true first j → (getD kept (16 + getD operands j 0) 0 ≡ 0 → ⊥) → AllAre operands kept true first (j + 1)
+    pub true-more : (j : ℕ) → AllAre operands kept true first j → (getD kept (8 + getD operands j 0) 0 ≡ 0 → ⊥) → AllAre operands kept true first (j + 1)
     unfolding trueIn
-    true-more j s p = are-more true j s (rw (ne-eqb (getD kept (16 + getD operands j 0) 0) 0 p))
+    true-more j s p = are-more true j s (rw (ne-eqb (getD kept (8 + getD operands j 0) 0) 0 p))
 
     -- the gathered words x are 0 only if every operand is false
     pub false-more : (j x : ℕ) → (x ≡ 0 → AllAre operands kept false first j)
-        → bitOr x (getD kept (16 + getD operands j 0) 0) ≡ 0 → AllAre operands kept false first (j + 1)
+        → bitOr x (getD kept (8 + getD operands j 0) 0) ≡ 0 → AllAre operands kept false first (j + 1)
     unfolding trueIn
     false-more j x s z =
-        let w : ℕ = getD kept (16 + getD operands j 0) 0 in
+        let w : ℕ = getD kept (8 + getD operands j 0) 0 in
         let l : x ≡ 0 = omega (arith, or-add-and x w, and-le-r x w) in
         let r : w ≡ 0 = omega (arith, or-add-and x w, and-le-l x w) in
         are-more false j (s l) (rw r)

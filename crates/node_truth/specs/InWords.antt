@@ -21,7 +21,7 @@ seenOf Stray = none
 
 -- node o is true
 unfoldable pub trueIn : List ℕ → ℕ → Bool
-trueIn ws o = not (eqb (getD ws (16 + o) 0) 0)
+trueIn ws o = not (eqb (getD ws (8 + o) 0) 0)
 
 -- atom a is in the candidate
 unfoldable pub presentIn : Counts → List ℕ → ℕ → Bool

@@ -28,10 +28,10 @@ fn known(holds: bool) -> Seen
 
 // Whether node o is true.
 pub fn holds(kept: &[u32], o: usize) -> bool
-    requires { ⌜ 16 + o < length (now kept) ⌝ }
+    requires { ⌜ 8 + o < length (now kept) ⌝ }
     ensures { λ r. ⌜ r ≡ trueIn (now (kept .entry)) o ⌝ }
 {
-    kept[16 + o] != 0
+    kept[8 + o] != 0
 }
 
 // Whether atom a is in the candidate.
@@ -40,7 +40,7 @@ pub fn present(counts: Counts, kept: &[u32], a: usize) -> bool
     ensures { λ r. ⌜ r ≡ presentIn counts (now (kept .entry)) a ⌝ }
 {
     let n = counts.nodes;
-    let at = 16 + n + (n + 31) / 32 + counts.atoms + a / 32;
+    let at = 8 + n + (n + 31) / 32 + counts.atoms + a / 32;
     (kept[at] >> (a % 32)) % 2 == 1
 }
 
@@ -53,7 +53,7 @@ fn group_truth(
     count: usize,
     decisive: bool,
 ) -> Seen
-    requires { ⌜ (start + count ≤ length (now operands)) × (16 + k ≤ length (now kept)) ⌝ }
+    requires { ⌜ (start + count ≤ length (now operands)) × (8 + k ≤ length (now kept)) ⌝ }
     ensures { λ r. ⌜ seenOf r ≡ groupSeen k (trueIn (now (kept .entry))) decisive (span (now (operands .entry)) start count) ⌝ }
 {
     let end = start + count;
@@ -92,14 +92,14 @@ fn block_below(operands: &[u32], k: usize, first: usize) -> bool
 
 // Whether the 16 operands from `first` on are true.
 fn block_true(operands: &[u32], kept: &[u32], first: usize) -> bool
-    requires { ⌜ (first + 16 ≤ length (now operands)) × AllBelow (now operands) (length (now kept) - 16) first (first + 16) ⌝ }
+    requires { ⌜ (first + 16 ≤ length (now operands)) × AllBelow (now operands) (length (now kept) - 8) first (first + 16) ⌝ }
     ensures { λ r. ⌜ (r ≡ true → AllAre (now (operands .entry)) (now (kept .entry)) true first (first + 16)) ⌝ }
 {
     let end = first + 16;
     let mut x = 0u32;
     let mut i = first;
     while i < end {
-        if kept[16 + operands[i] as usize] == 0 {
+        if kept[8 + operands[i] as usize] == 0 {
             x = 1;
         }
         i += 1;
@@ -109,14 +109,14 @@ fn block_true(operands: &[u32], kept: &[u32], first: usize) -> bool
 
 // Whether the 16 operands from `first` on are false.
 fn block_false(operands: &[u32], kept: &[u32], first: usize) -> bool
-    requires { ⌜ (first + 16 ≤ length (now operands)) × AllBelow (now operands) (length (now kept) - 16) first (first + 16) ⌝ }
+    requires { ⌜ (first + 16 ≤ length (now operands)) × AllBelow (now operands) (length (now kept) - 8) first (first + 16) ⌝ }
     ensures { λ r. ⌜ (r ≡ true → AllAre (now (operands .entry)) (now (kept .entry)) false first (first + 16)) ⌝ }
 {
     let end = first + 16;
     let mut x = 0u32;
     let mut i = first;
     while i < end {
-        x = x | kept[16 + operands[i] as usize];
+        x = x | kept[8 + operands[i] as usize];
         i += 1;
     }
     x == 0
@@ -124,7 +124,7 @@ fn block_false(operands: &[u32], kept: &[u32], first: usize) -> bool
 
 // Whether the 16 operands from `first` on are below k and none decides. No branch goes by a truth, so that several are read at once.
 fn undecided(operands: &[u32], kept: &[u32], k: usize, first: usize, decisive: bool) -> bool
-    requires { ⌜ (first + 16 ≤ length (now operands)) × (16 + k ≤ length (now kept)) ⌝ }
+    requires { ⌜ (first + 16 ≤ length (now operands)) × (8 + k ≤ length (now kept)) ⌝ }
     ensures { λ r. ⌜ (r ≡ true → AllBelow (now (operands .entry)) k first (first + 16) × AllAre (now (operands .entry)) (now (kept .entry)) (not decisive) first (first + 16)) ⌝ }
 {
     if !block_below(operands, k, first) {
@@ -146,7 +146,7 @@ fn skip_blocks(
     end: usize,
     decisive: bool,
 ) -> usize
-    requires { ⌜ (start ≤ end) × (end ≤ length (now operands)) × (16 + k ≤ length (now kept)) ⌝ }
+    requires { ⌜ (start ≤ end) × (end ≤ length (now operands)) × (8 + k ≤ length (now kept)) ⌝ }
     ensures { λ r. ⌜ (start ≤ r) × (r ≤ end) × (groupSeen k (trueIn (now (kept .entry))) decisive (span (now (operands .entry)) start (end - start)) ≡ groupSeen k (trueIn (now (kept .entry))) decisive (span (now (operands .entry)) r (end - r))) ⌝ }
 {
     let mut i = start;
@@ -168,7 +168,7 @@ fn large_truth(
     count: usize,
     decisive: bool,
 ) -> Seen
-    requires { ⌜ (start + count ≤ length (now operands)) × (16 + k ≤ length (now kept)) ⌝ }
+    requires { ⌜ (start + count ≤ length (now operands)) × (8 + k ≤ length (now kept)) ⌝ }
     ensures { λ r. ⌜ seenOf r ≡ groupSeen k (trueIn (now (kept .entry))) decisive (span (now (operands .entry)) start count) ⌝ }
 {
     let i = skip_blocks(operands, kept, k, start, start + count, decisive);
@@ -185,7 +185,7 @@ pub fn span_truth(
     count: usize,
     decisive: bool,
 ) -> Seen
-    requires { ⌜ (size ≤ length (now operands)) × (start < 4294967296) × (count < 4294967296) × (16 + k ≤ length (now kept)) ⌝ }
+    requires { ⌜ (size ≤ length (now operands)) × (start < 4294967296) × (count < 4294967296) × (8 + k ≤ length (now kept)) ⌝ }
     ensures { λ r. ⌜ seenOf r ≡ spanSeen size k (trueIn (now (kept .entry))) decisive (now (operands .entry)) start count ⌝ }
 {
     if start + count > size {
@@ -210,7 +210,7 @@ pub fn atom_truth(counts: Counts, kept: &[u32], a: usize) -> Seen
 
 // Implies of left and right, at node k.
 pub fn implies_truth(kept: &[u32], k: usize, left: usize, right: usize) -> Seen
-    requires { ⌜ 16 + k ≤ length (now kept) ⌝ }
+    requires { ⌜ 8 + k ≤ length (now kept) ⌝ }
     ensures { λ r. ⌜ seenOf r ≡ impliesSeen k (trueIn (now (kept .entry))) left right ⌝ }
 {
     if left >= k {

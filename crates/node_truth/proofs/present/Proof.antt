@@ -1,5 +1,6 @@
 use mathlib.Core.Path.{refl}
 use Rattle.words.specs.Bit.{bit}
+use Rattle.kept_laws.specs.Within.{candidate-within}
 use Rattle.node_truth.specs.InWords.{presentIn}
 use borrow.Author.Needs.{needs}
 use Rattle.node_truth.proofs.present.Statement.{statement}
@@ -33,7 +34,7 @@ mul-result c = search needs
 
 -- src/lib.rt:43:6
 shared-slice-read-result : tie.Need-shared-slice-read-result
-shared-slice-read-result c = search needs
+shared-slice-read-result c = candidate-within (c .before .before .args .counts) _ (c .before .before .pre .2) _ (c .before .before .pre .1)
 
 -- src/lib.rt:43:19
 cast-result : tie.Need-cast-result
