@@ -59,8 +59,7 @@ behind-is : (n : ℕ) (w : Worklist) (m : ℕ) (r : Worklist) → behind n w m �
 unfolding behind
 behind-is n w m r e =
     let t = then-some (withMember n (w .others) m true) (λ o. some (put o)) r e in
-    let i : put (t .0) ≡ r = some-is (put (t .0)) r (t .2) in
-    (
+    let i : put (t .0) ≡ r = some-is (put (t .0)) r (t .2) in (
       record {
         members = ap (λ y. length (y .others .members)) (sym i) ∙ length-members n (w .others) m true (t .0) (t .1);
         groups = ap (λ y. length (y .groups)) (sym i) ∙ length-inserted 32 (w .groups) (m / 32);
@@ -110,8 +109,7 @@ module _ (n : ℕ) (w : Worklist) (r : Worklist) where
       let t = if-some (ltb q (words32 n) && filled (w .others .members) q && ltb (w .first) m) (some (advanced w q m)) r e in
       let i : advanced w q m ≡ r = some-is (advanced w q m) r (t .1) in
       let x : m ≡ r .first = ap (λ y. y .first) i in
-      let b : ltb (w .first) m ≡ true = both-right (ltb q (words32 n) && filled (w .others .members) q) (ltb (w .first) m) (t .0) in
-      (
+      let b : ltb (w .first) m ≡ true = both-right (ltb q (words32 n) && filled (w .others .members) q) (ltb (w .first) m) (t .0) in (
         record {
           members = ap (λ y. length (y .others .members)) (sym i) ∙ length-removed 32 (w .others .members) m;
           groups = ap (λ y. length (y .groups)) (sym i) ∙ alike-groups (filled (removed 32 (w .others .members) m) q) q;

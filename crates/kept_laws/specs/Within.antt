@@ -2,10 +2,14 @@
 -- Assumes nothing.
 use Prim.Native.Nat.{ℕ, _+_, _/_, _<_, _≤_}
 use native.Mathlib.Omega.{arith}
+use Rattle.theory.specs.Limits.{Limited}
 use Rattle.theory.specs.declared.Counts.{Counts}
 use Rattle.kept_laws.specs.Given.{worklistAt, supportAt, candidateAt, missingAt, falseRootsAt, groupsAt, usedBy}
 
 module _ (t : Counts) (long : ℕ) (fits : usedBy t ≤ long) where
+  pub header-within : (i : ℕ) → i < 8 → i < long
+  header-within i l = omega arith
+
   pub truth-within : (k : ℕ) → k < t .nodes → 8 + k < long
   truth-within k l = omega arith
 
@@ -26,3 +30,13 @@ module _ (t : Counts) (long : ℕ) (fits : usedBy t ≤ long) where
 
   pub groups-within : (q : ℕ) → q < t .nodes → groupsAt t + q / 32 < long
   groups-within q l = omega arith
+
+module _ (t : Counts) (small : Limited t) where
+  pub atoms-small : t .atoms < 4294967296
+  atoms-small = omega (arith, small .atoms)
+
+  pub nodes-small : t .nodes < 4294967296
+  nodes-small = omega (arith, small .nodes)
+
+  pub roots-small : t .roots < 4294967296
+  roots-small = omega (arith, small .roots)

@@ -12,10 +12,6 @@ use Rattle.retained.specs.declared.Count.{Count}
 use Rattle.retained.specs.declared.Count.the-variants.{Now, Astray}
 use Rattle.kept.specs.Parts.{withWorklist, withSupport, withCandidate}
 
--- node k off the worklist
-unfoldable pub dequeued : Tables → ℕ → Evaluation → Option Evaluation
-dequeued T k e = andThen (withMember (nodeCount T) (e .worklist) k false) (λ w. some (withWorklist e w))
-
 -- atom a missing or not
 unfoldable pub missingTurned : Tables → ℕ → Bool → Evaluation → Option Evaluation
 missingTurned T a x e = andThen (withMember (atomCount T) (e .missing) a x) (λ m. some (withSupport e (e .support) m))

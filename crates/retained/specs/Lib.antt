@@ -1,6 +1,5 @@
 pub mod Member
 pub mod Changes
 pub mod MemberLaws
-pub mod TakeOffLaws
 pub mod PresenceLaws
 pub mod SupportLaws

@@ -17,18 +17,18 @@ use Rattle.kept.specs.CountedSet.{andThen, CountedSet, moved, withBit, withMemb
 use Rattle.kept.specs.CountedSetLaws.{unlike-same}
 use Rattle.kept.specs.Tables.{Tables, atomCount, nodeCount, rootCount}
 use Rattle.kept.specs.Evaluation.{Evaluation}
-use Rattle.kept.specs.Parts.{withWorklist, withSupport, withFalseRoots}
-use Rattle.kept.specs.Step.{entered, rootTurned}
-use Rattle.kept.specs.Layout.{ofWords, written, worklistStart, missingStart, falseRootsStart, used}
+use Rattle.kept.specs.Parts.{withSupport, withFalseRoots}
+use Rattle.kept.specs.Step.{rootTurned}
+use Rattle.kept.specs.Layout.{ofWords, written, missingStart, falseRootsStart, used}
 use Rattle.kept.specs.LayoutLaws.{Fits, fits-of}
 use Rattle.kept_laws.specs.Stores.{withMembers}
 use Rattle.kept_laws.specs.Exits.{moved-up, moved-full, moved-down, moved-empty}
-use Rattle.kept_laws.specs.FitsLaws.{worklist-fits, roots-fit}
+use Rattle.kept_laws.specs.FitsLaws.{roots-fit}
 use Rattle.kept_laws.specs.Halves.{half}
-use Rattle.kept_laws.specs.Written.{written-same, put-worklist, put-worklist-size, put-missing, put-missing-size, put-falseRoots, put-falseRoots-size, get-worklist, get-worklist-size, get-missing, get-missing-size, get-falseRoots, get-falseRoots-size}
+use Rattle.kept_laws.specs.Written.{written-same, put-missing, put-missing-size, put-falseRoots, put-falseRoots-size, get-missing, get-missing-size, get-falseRoots, get-falseRoots-size}
 use Rattle.kept_laws.specs.Wrote.{Wrote, beside-same}
 use Rattle.retained.specs.Member.{digitPut, bitPut, memberPut, Put}
-use Rattle.retained.specs.Changes.{dequeued, missingTurned}
+use Rattle.retained.specs.Changes.{missingTurned}
 
 -- ---- the branches of the code
 
@@ -130,24 +130,6 @@ module _ (T : Tables) (ws : List ℕ) (long : used T ≤ length ws) where
   fits : Fits T e
   fits = fits-of T ws long
 
-  worklist-wrote : (i : ℕ) (x : Bool) → i < nodeCount T → (ok : Bool) (after : List ℕ) → Put ws (memberPut (worklistStart T) 4 (nodeCount T) i x ws) ok after
-      → Wrote T ws (andThen (withMember (nodeCount T) (e .worklist) i x) (λ w. some (withWorklist e w))) ok after
-  worklist-wrote i x l =
-      put-wrote T ws (worklistStart T) 4 (nodeCount T) (e .worklist) (withWorklist e) (written-same T ws long) i x (get-worklist T ws long (i / 32) (omega arith)) (get-worklist-size T ws)
-      (λ v m.
-      ap (λ w. set (set w (worklistStart T + i / 32) v) 4 m) (sym (written-same T ws long))
-      ∙ ap (λ w. set w 4 m) (put-worklist T ws long e fits (i / 32) v (omega arith))
-      ∙ put-worklist-size T ws long (withWorklist e (withMembers (e .worklist) (set (e .worklist .members) (i / 32) v)))
-      (worklist-fits T e (withMembers (e .worklist) (set (e .worklist .members) (i / 32) v)) (length-set (e .worklist .members) (i / 32) v) fits) m)
-
-  pub queue-wrote : (i : ℕ) → i < nodeCount T → (ok : Bool) (after : List ℕ) → Put ws (memberPut (worklistStart T) 4 (nodeCount T) i true ws) ok after → Wrote T ws (entered T i e) ok after
-  unfolding entered
-  queue-wrote i l = worklist-wrote i true l
-
-  pub dequeue-wrote : (i : ℕ) → i < nodeCount T → (ok : Bool) (after : List ℕ) → Put ws (memberPut (worklistStart T) 4 (nodeCount T) i false ws) ok after → Wrote T ws (dequeued T i e) ok after
-  unfolding dequeued
-  dequeue-wrote i l = worklist-wrote i false l
-
   pub missing-wrote : (a : ℕ) (x : Bool) → a < atomCount T → (ok : Bool) (after : List ℕ) → Put ws (memberPut (missingStart T) 2 (atomCount T) a x ws) ok after → Wrote T ws (missingTurned T a x e) ok after
   unfolding missingTurned
   missing-wrote i x l =
@@ -163,6 +145,7 @@ module _ (T : Tables) (ws : List ℕ) (long : used T ≤ length ws) where
         candidate = fits .candidate;
         missing = length-set (e .missing .members) (i / 32) v ∙ fits .missing;
         falseRoots = fits .falseRoots;
+        groups = fits .groups;
       }) m)
 
   pub root-wrote : (r : ℕ) (t : Bool) → r < rootCount T → (ok : Bool) (after : List ℕ) → Put ws (memberPut (falseRootsStart T) 3 (rootCount T) r (not t) ws) ok after → Wrote T ws (rootTurned T t r e) ok after

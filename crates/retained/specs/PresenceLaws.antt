@@ -32,6 +32,7 @@ module _ (T : Tables) where
         candidate = f .candidate;
         missing = length-members (atomCount T) (e .missing) a x m h ∙ f .missing;
         falseRoots = f .falseRoots;
+        groups = f .groups;
       }
 
   -- what turning the missing atom gives

@@ -13,7 +13,7 @@ ghost use Rattle.kept_laws.specs.Given.{usedBy, sized, supplied};
 ghost use Rattle.kept_laws.specs.Halves.{half};
 ghost use Rattle.kept_laws.specs.Wrote.{Wrote};
 ghost use Rattle.retained.specs.Member.{Put, bitPut, memberPut};
-ghost use Rattle.retained.specs.Changes.{countOf, missingTurned, presenceTurned, dequeued};
+ghost use Rattle.retained.specs.Changes.{countOf, missingTurned, presenceTurned};
 use theory::Counts;
 
 // A count after a change. Astray: it would have left its range.
@@ -72,24 +72,6 @@ fn turn(kept: &mut [u32], at: usize, size: usize, most: usize, i: usize, x: bool
     }
 }
 
-// Node m onto the worklist.
-pub fn queue(counts: Counts, kept: &mut [u32], m: usize) -> bool
-    requires { ⌜ Limited counts × (m < counts .nodes) × (usedBy counts ≤ length (now kept)) ⌝ }
-    ensures { λ r. ⌜ ((T : Tables) → Wrote (sized counts T) (now (kept .entry)) (entered (sized counts T) m (ofWords (sized counts T) (now (kept .entry)))) r (now (kept .exit))) ⌝ }
-{
-    include(kept, 16 + counts.nodes, 4, counts.nodes, m)
-}
-
-// Node m, on the worklist, off it.
-pub fn dequeue(counts: Counts, kept: &mut [u32], m: usize)
-    requires { ⌜ Limited counts × (m < counts .nodes) × (usedBy counts ≤ length (now kept)) × (bit (getD (now kept) (16 + counts .nodes + m / 32) 0) (m % 32) ≡ true) × (0 < getD (now kept) 4 0) ⌝ }
-    ensures { λ _. ⌜ ((T : Tables) → Wrote (sized counts T) (now (kept .entry)) (dequeued (sized counts T) m (ofWords (sized counts T) (now (kept .entry)))) true (now (kept .exit))) ⌝ }
-{
-    let q = 16 + counts.nodes + m / 32;
-    kept[q] = kept[q] ^ (1u32 << (m % 32));
-    kept[4] = kept[4] - 1;
-}
-
 // Root position p holds or not.
 pub fn root(counts: Counts, kept: &mut [u32], p: usize, holds: bool) -> bool
     requires { ⌜ Limited counts × (p < counts .roots) × (usedBy counts ≤ length (now kept)) ⌝ }
@@ -97,7 +79,7 @@ pub fn root(counts: Counts, kept: &mut [u32], p: usize, holds: bool) -> bool
 {
     let n = counts.nodes;
     let a = counts.atoms;
-    let at = 16 + n + (n + 31) / 32 + a + (a + 31) / 32 + (a + 31) / 32;
+    let at = 8 + n + (n + 31) / 32 + a + (a + 31) / 32 + (a + 31) / 32;
     turn(kept, at, 3, counts.roots, p, !holds)
 }
 
@@ -107,7 +89,7 @@ pub fn missing(counts: Counts, kept: &mut [u32], a: usize, lacking: bool) -> boo
     ensures { λ r. ⌜ ((T : Tables) → Wrote (sized counts T) (now (kept .entry)) (missingTurned (sized counts T) a lacking (ofWords (sized counts T) (now (kept .entry)))) r (now (kept .exit))) ⌝ }
 {
     let n = counts.nodes;
-    let at = 16 + n + (n + 31) / 32 + counts.atoms + (counts.atoms + 31) / 32;
+    let at = 8 + n + (n + 31) / 32 + counts.atoms + (counts.atoms + 31) / 32;
     turn(kept, at, 2, counts.atoms, a, lacking)
 }
 
@@ -117,7 +99,7 @@ pub fn presence(counts: Counts, kept: &mut [u32], a: usize, x: bool) -> bool
     ensures { λ r. ⌜ ((T : Tables) → Wrote (sized counts T) (now (kept .entry)) (presenceTurned (sized counts T) a x (ofWords (sized counts T) (now (kept .entry)))) r (now (kept .exit))) ⌝ }
 {
     let n = counts.nodes;
-    let support = 16 + n + (n + 31) / 32;
+    let support = 8 + n + (n + 31) / 32;
     let lacking = x && kept[support + a] == 0;
     if !missing(counts, kept, a, lacking) {
         return false;
@@ -164,7 +146,7 @@ pub fn support(counts: Counts, made: usize, kept: &mut [u32], a: usize, holds: b
     ensures { λ r. ⌜ ((T : Tables) → Wrote (supplied counts made T) (now (kept .entry)) (supportMoved (supplied counts made T) holds a (ofWords (supplied counts made T) (now (kept .entry)))) r (now (kept .exit))) ⌝ }
 {
     let n = counts.nodes;
-    let at = 16 + n + (n + 31) / 32 + a;
+    let at = 8 + n + (n + 31) / 32 + a;
     let before = words::word(kept, at);
     match counted(before, made, holds) {
         Count::Astray => false,

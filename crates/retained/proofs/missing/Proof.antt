@@ -1,3 +1,5 @@
+use native.Mathlib.Omega.{arith}
+use Rattle.kept_laws.specs.Within.{header-within, missing-within, atoms-small}
 use Rattle.kept_laws.specs.Given.{sized}
 use Rattle.retained.specs.MemberLaws.{missing-wrote}
 use borrow.Author.Needs.{needs}
@@ -33,7 +35,7 @@ add-at-6 c = search needs
 
 -- src/lib.rt:100:5
 turn-requires : tie.Need-turn-requires
-turn-requires c κs = search needs
+turn-requires c κs = (missing-within (c .before .before .before .before .args .counts) _ (c .before .before .before .before .pre .2) _ (c .before .before .before .before .pre .1), header-within (c .before .before .before .before .args .counts) _ (c .before .before .before .before .pre .2) 2 (omega arith), atoms-small (c .before .before .before .before .args .counts) (c .before .before .before .before .pre .0))
 
 -- src/lib.rt:94:1
 same-length : tie.Need-same-length

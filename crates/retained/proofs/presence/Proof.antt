@@ -1,3 +1,4 @@
+use Rattle.kept_laws.specs.Within.{candidate-within}
 use Rattle.kept_laws.specs.OptionLaws.{not-true, not-false}
 use mathlib.Core.Logic.{⊎-elim}
 use Rattle.kept_laws.specs.Given.{sized}
@@ -52,7 +53,7 @@ add-mark c = search needs
 
 -- src/lib.rt:114:5
 mark-requires : tie.Need-mark-requires
-mark-requires c κs = search needs
+mark-requires c κs = candidate-within (c .before .before .before .before .before .before .before .before .before .args .counts) _ (rw (c .before .before .before .before .before .missing .kept .1 .0) (c .before .before .before .before .before .before .before .before .before .pre .2)) _ (c .before .before .before .before .before .before .before .before .before .pre .1)
 
 -- src/lib.rt:104:1
 same-length-2 : tie.Need-same-length-2
