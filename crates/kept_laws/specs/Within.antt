@@ -40,3 +40,7 @@ module _ (t : Counts) (small : Limited t) where
 
   pub roots-small : t .roots < 4294967296
   roots-small = omega (arith, small .roots)
+
+-- a node's word is none that is no node's
+pub word-within : (m n : ℕ) → m < n → m / 32 < n
+word-within m n l = omega arith

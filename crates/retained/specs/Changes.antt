@@ -1,16 +1,30 @@
 -- The parts of a step and of the walk's start that one call makes.
 -- Assumes nothing.
-use Prim.Native.Nat.{ℕ}
-use mathlib.Core.Bool.{Bool, false, _&&_}
+use Prim.Native.Nat.{ℕ, _*_}
+use mathlib.Core.Bool.{Bool, _&&_}
 use mathlib.Core.Option.{Option, some, none}
 use lib.Dec.{eqb}
 use lib.ListN.{getD}
+use Rattle.words.specs.Next.{next}
 use Rattle.kept.specs.CountedSet.{andThen, withBit, withMember}
+use Rattle.kept.specs.Worklist.{behind, advance, withoutFirst}
 use Rattle.kept.specs.Tables.{Tables, atomCount, nodeCount}
 use Rattle.kept.specs.Evaluation.{Evaluation}
 use Rattle.retained.specs.declared.Count.{Count}
 use Rattle.retained.specs.declared.Count.the-variants.{Now, Astray}
 use Rattle.kept.specs.Parts.{withWorklist, withSupport, withCandidate}
+
+-- node m behind the first of the worklist
+unfoldable pub waiting : Tables → ℕ → Evaluation → Option Evaluation
+waiting T m e = andThen (behind (nodeCount T) (e .worklist) m) (λ w. some (withWorklist e w))
+
+-- the lowest member of word q in the place of the first
+unfoldable pub advancedTo : Tables → ℕ → Evaluation → Option Evaluation
+advancedTo T q e = andThen (advance (nodeCount T) (e .worklist) q (next 32 (e .worklist .others .members) (32 * q))) (λ w. some (withWorklist e w))
+
+-- the first off the worklist
+unfoldable pub dequeued : Tables → Evaluation → Option Evaluation
+dequeued T e = andThen (withoutFirst (nodeCount T) (e .worklist)) (λ w. some (withWorklist e w))
 
 -- atom a missing or not
 unfoldable pub missingTurned : Tables → ℕ → Bool → Evaluation → Option Evaluation

@@ -1,5 +1,8 @@
 pub mod Member
 pub mod Changes
+pub mod Groups
 pub mod MemberLaws
 pub mod PresenceLaws
 pub mod SupportLaws
+pub mod TakeOffLaws
+pub mod QueueLaws

@@ -1,19 +1,21 @@
 // Changes of a kept evaluation in its lent words: `queue`, `presence`, `support` and `root` of tight/evaluate.rs. Each that can fail answers false where a count would leave its range.
 ghost use mathlib.Core.Path.{_≡_};
 ghost use mathlib.Core.Bool.{true, false};
-ghost use Prim.Native.Nat.{_+_, _*_, _/_, _%_, _<_, _≤_};
+ghost use Prim.Native.Nat.{_+_, _*_, _/_, _<_, _≤_};
 ghost use lib.ListN.{length, getD};
 ghost use Rattle.theory.specs.Limits.{Limited};
-ghost use Rattle.words.specs.Bit.{bit};
+ghost use Rattle.words.specs.Next.{next};
+ghost use Rattle.kept.specs.SetOf.{words32};
 ghost use Rattle.kept.specs.CountedSet.{moved};
 ghost use Rattle.kept.specs.Tables.{Tables};
 ghost use Rattle.kept.specs.Layout.{ofWords};
 ghost use Rattle.kept.specs.Step.{entered, supportMoved, rootTurned};
-ghost use Rattle.kept_laws.specs.Given.{usedBy, sized, supplied};
+ghost use Rattle.kept_laws.specs.Given.{groupsAt, usedBy, sized, supplied};
 ghost use Rattle.kept_laws.specs.Halves.{half};
 ghost use Rattle.kept_laws.specs.Wrote.{Wrote};
 ghost use Rattle.retained.specs.Member.{Put, bitPut, memberPut};
-ghost use Rattle.retained.specs.Changes.{countOf, missingTurned, presenceTurned};
+ghost use Rattle.retained.specs.Changes.{countOf, missingTurned, presenceTurned, waiting, advancedTo, dequeued};
+ghost use Rattle.retained.specs.Groups.{regrouped};
 use theory::Counts;
 
 // A count after a change. Astray: it would have left its range.
@@ -70,6 +72,106 @@ fn turn(kept: &mut [u32], at: usize, size: usize, most: usize, i: usize, x: bool
     } else {
         exclude(kept, at, size, most, i)
     }
+}
+
+// Where the groups of the worklist's words begin.
+fn groups_at(counts: Counts) -> usize
+    requires { ⌜ Limited counts ⌝ }
+    ensures { λ r. ⌜ r ≡ groupsAt counts ⌝ }
+{
+    let n = counts.nodes;
+    let a = counts.atoms;
+    8 + n + (n + 31) / 32 + a + (a + 31) / 32 + (a + 31) / 32 + (counts.roots + 31) / 32
+}
+
+// Node m among those that wait behind the first.
+fn wait(counts: Counts, kept: &mut [u32], m: usize) -> bool
+    requires { ⌜ Limited counts × (m < counts .nodes) × (usedBy counts ≤ length (now kept)) ⌝ }
+    ensures { λ r. ⌜ ((T : Tables) → Wrote (sized counts T) (now (kept .entry)) (waiting (sized counts T) m (ofWords (sized counts T) (now (kept .entry)))) r (now (kept .exit))) ⌝ }
+{
+    if !include(kept, 8 + counts.nodes, 4, counts.nodes, m) {
+        return false;
+    }
+    mark(kept, groups_at(counts), m / 32, true);
+    true
+}
+
+// Node m onto the worklist: the lower of it and the first comes first, the other waits behind.
+pub fn queue(counts: Counts, kept: &mut [u32], m: usize) -> bool
+    requires { ⌜ Limited counts × (m < counts .nodes) × (usedBy counts ≤ length (now kept)) ⌝ }
+    ensures { λ r. ⌜ ((T : Tables) → Wrote (sized counts T) (now (kept .entry)) (entered (sized counts T) m (ofWords (sized counts T) (now (kept .entry)))) r (now (kept .exit))) ⌝ }
+{
+    let first = words::word(kept, 5);
+    if m > first {
+        return wait(counts, kept, m);
+    }
+    if m == first {
+        return true;
+    }
+    kept[5] = m as u32;
+    if first >= counts.nodes {
+        return true;
+    }
+    wait(counts, kept, first)
+}
+
+// The first word from q on that has members by the groups.
+fn next_group(counts: Counts, kept: &[u32], q: usize) -> usize
+    requires { ⌜ Limited counts × (q < counts .nodes) × (usedBy counts ≤ length (now kept)) ⌝ }
+    ensures { λ r. ⌜ ((T : Tables) → r ≡ next 32 (ofWords (sized counts T) (now (kept .entry)) .worklist .groups) q) ⌝ }
+{
+    let at = groups_at(counts);
+    let end = at + (counts.nodes + 31) / 32;
+    words::set32::next(&kept[at..end], q)
+}
+
+// A word that has become 0, q, leaves its group.
+fn regroup(counts: Counts, kept: &mut [u32], q: usize, rest: u32)
+    requires { ⌜ Limited counts × (q < counts .nodes) × (usedBy counts ≤ length (now kept)) ⌝ }
+    ensures { λ _. ⌜ now (kept .exit) ≡ regrouped (groupsAt counts) q rest (now (kept .entry)) ⌝ }
+{
+    if rest == 0 {
+        mark(kept, groups_at(counts), q, false);
+    }
+}
+
+// The lowest member of word q comes first, after node k; false if the word has none or it is not above k.
+fn advance(counts: Counts, kept: &mut [u32], k: usize, q: usize) -> bool
+    requires { ⌜ Limited counts × (q < words32 (counts .nodes)) × (usedBy counts ≤ length (now kept)) × (getD (now kept) 5 0 ≡ k) × (0 < getD (now kept) 4 0) ⌝ }
+    ensures { λ r. ⌜ ((T : Tables) → Wrote (sized counts T) (now (kept .entry)) (advancedTo (sized counts T) q (ofWords (sized counts T) (now (kept .entry)))) r (now (kept .exit))) ⌝ }
+{
+    let at = 8 + counts.nodes + q;
+    let x = kept[at];
+    if x == 0 {
+        return false;
+    }
+    let t = u32::trailing_zeros(x);
+    let m = 32 * q + t as usize;
+    if m <= k {
+        return false;
+    }
+    let rest = x ^ (1u32 << t);
+    kept[at] = rest;
+    regroup(counts, kept, q, rest);
+    kept[4] = kept[4] - 1;
+    kept[5] = m as u32;
+    true
+}
+
+// The first node of the worklist, k, off it: the next one comes first.
+pub fn dequeue(counts: Counts, kept: &mut [u32], k: usize) -> bool
+    requires { ⌜ Limited counts × (k < counts .nodes) × (usedBy counts ≤ length (now kept)) × (getD (now kept) 5 0 ≡ k) ⌝ }
+    ensures { λ r. ⌜ ((T : Tables) → Wrote (sized counts T) (now (kept .entry)) (dequeued (sized counts T) (ofWords (sized counts T) (now (kept .entry)))) r (now (kept .exit))) ⌝ }
+{
+    if kept[4] == 0 {
+        kept[5] = counts.nodes as u32;
+        return true;
+    }
+    let q = next_group(counts, kept, k / 32);
+    if q >= (counts.nodes + 31) / 32 {
+        return false;
+    }
+    advance(counts, kept, k, q)
 }
 
 // Root position p holds or not.

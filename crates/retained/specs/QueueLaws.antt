@@ -1,0 +1,314 @@
+-- The worklist inside the lent words: a node enters it, or its first leaves.
+-- Assumes nothing.
+use Prim.Native.Nat.{ℕ, _<_, _≤_, _+_, _-_, _*_, _/_, _%_, _^_}
+use native.Mathlib.Omega.{arith}
+use mathlib.Core.Path.{_≡_, refl, ap, sym, _∙_}
+use mathlib.Core.Bool.{Bool, true, false, not, cond, _&&_}
+use mathlib.Core.List.{List}
+use mathlib.Core.Option.{Option, some, none}
+use lib.Bits.{bitXor}
+use lib.Count.{trailingZeros}
+use lib.Dec.{eqb, ltb}
+use lib.ListN.{length, getD, set, take, drop, length-set, length-drop}
+use lib.Seq.{getD-set-same, length-take-le}
+use borrow.Author.Tests.{eq-eqb, ne-eqb, lt-ltb, le-ltb}
+use Rattle.words.specs.BitLaws.{trailing-below, trailing-set}
+use Rattle.words.specs.Next.{next}
+use Rattle.words.specs.NextLaws.{next-hit}
+use Rattle.words.specs.Sets.{inserted, removed}
+use Rattle.words.specs.SetLaws.{length-removed}
+use Rattle.kept.specs.SetOf.{words32}
+use Rattle.kept.specs.CountedSet.{andThen, CountedSet, withBit, withMember}
+use Rattle.kept.specs.Worklist.{Worklist, withFirst, behind, withNode, filled, advanced, advance, withoutFirst}
+use Rattle.kept.specs.Tables.{Tables, nodeCount}
+use Rattle.kept.specs.Evaluation.{Evaluation}
+use Rattle.kept.specs.Parts.{withWorklist}
+use Rattle.kept.specs.Step.{entered}
+use Rattle.kept.specs.Layout.{ofWords, written, worklistStart, groupsStart, used}
+use Rattle.kept.specs.LayoutLaws.{Fits, fits-of}
+use Rattle.kept_laws.specs.OptionLaws.{some-is, then-some}
+use Rattle.kept_laws.specs.Stores.{withMembers, withOthers, withGroups}
+use Rattle.kept_laws.specs.FitsLaws.{Alike, worklist-fits, length-members}
+use Rattle.kept_laws.specs.Written.{written-same, of-written, length-written, put-worklist, put-worklist-size, put-first, put-groups, get-worklist, get-worklist-size, get-first, get-groups, part-groups}
+use Rattle.kept_laws.specs.Wrote.{Wrote, beside-same, wrote-same, wrote-some, wrote-none, wrote-true, wrote-false, wrote-then, mid-holds}
+use Rattle.retained.specs.Member.{digitPut, bitPut, memberPut, Put}
+use Rattle.retained.specs.MemberLaws.{put-wrote}
+use Rattle.retained.specs.Changes.{waiting, advancedTo, dequeued}
+use Rattle.retained.specs.Groups.{regrouped}
+use Rattle.retained.specs.TakeOffLaws.{digit-off}
+
+-- a part of the words as long as it is lent
+pub lent-long : (at k : ℕ) (ws : List ℕ) → at + k ≤ length ws → length (take (at + k - at) (drop at ws)) ≡ k
+lent-long at k ws l =
+    let i : at + k - at ≡ k = omega arith in
+    rw i (length-take-le k (drop at ws) (rw (length-drop at ws) (omega arith)))
+
+module _ (T : Tables) (ws : List ℕ) (long : used T ≤ length ws) where
+  abbrev e : Evaluation
+  e = ofWords T ws
+
+  abbrev w : Worklist
+  w = e .worklist
+
+  fits : Fits T e
+  fits = fits-of T ws long
+
+  -- ---- a group's digit
+
+  module _ (q : ℕ) (l : q < nodeCount T) (x : Bool) where
+    digits : (d : Evaluation) (x : Bool) → set (d .worklist .groups) (q / 32) (digitPut (getD (d .worklist .groups) (q / 32) 0) (q % 32) x) ≡ withBit (d .worklist .groups) q x
+    unfolding withBit inserted removed
+    digits d true = refl
+    digits d false = refl
+
+    pub group-stored : (d : Evaluation) → Fits T d
+        → bitPut (groupsStart T) q x (written T ws d) ≡ written T ws (withWorklist d (withGroups (d .worklist) (withBit (d .worklist .groups) q x)))
+    unfolding bitPut
+    group-stored d f =
+        ap (λ v. set (written T ws d) (groupsStart T + q / 32) (digitPut v (q % 32) x)) loaded
+        ∙ put-groups T ws long d f (q / 32) (digitPut (getD (d .worklist .groups) (q / 32) 0) (q % 32) x) (omega arith)
+        ∙ ap (λ c. written T ws (withWorklist d (withGroups (d .worklist) c))) (digits d x)
+      where
+        loaded : getD (written T ws d) (groupsStart T + q / 32) 0 ≡ getD (d .worklist .groups) (q / 32) 0
+        loaded = get-groups T (written T ws d) (rw (length-written T ws long d f) long) (q / 32) (omega arith) ∙ ap (λ y. getD (y .worklist .groups) (q / 32) 0) (of-written T ws long d f)
+
+  -- the groups lent as a slice
+  pub group-in : (q r : ℕ) → r ≡ next 32 (take (used T - groupsStart T) (drop (groupsStart T) ws)) q → r ≡ next 32 (w .groups) q
+  group-in q r h = h ∙ ap (λ y. next 32 y q) (part-groups T ws long)
+
+  -- ---- a node behind the first
+
+  abbrev put : CountedSet → Evaluation
+  put o = withWorklist e (withOthers w o)
+
+  others-fit : (o : CountedSet) → length (o .members) ≡ length (w .others .members) → Fits T (put o)
+  others-fit o h = worklist-fits T e (withOthers w o) (record { members = h; groups = refl }) fits
+
+  others-wrote : (m : ℕ) → m < nodeCount T → (ok : Bool) (after : List ℕ) → Put ws (memberPut (worklistStart T) 4 (nodeCount T) m true ws) ok after
+      → Wrote T ws (andThen (withMember (nodeCount T) (w .others) m true) (λ o. some (put o))) ok after
+  others-wrote m l =
+      put-wrote T ws (worklistStart T) 4 (nodeCount T) (w .others) put (written-same T ws long) m true (get-worklist T ws long (m / 32) (omega arith)) (get-worklist-size T ws)
+      (λ v n.
+      ap (λ x. set (set x (worklistStart T + m / 32) v) 4 n) (sym (written-same T ws long))
+      ∙ ap (λ x. set x 4 n) (put-worklist T ws long e fits (m / 32) v (omega arith))
+      ∙ put-worklist-size T ws long (put (withMembers (w .others) (set (w .others .members) (m / 32) v)))
+      (others-fit (withMembers (w .others) (set (w .others .members) (m / 32) v)) (length-set (w .others .members) (m / 32) v)) n)
+
+  module _ (m : ℕ) (l : m < nodeCount T) (ok : Bool) (mid : List ℕ) (h : Put ws (memberPut (worklistStart T) 4 (nodeCount T) m true ws) ok mid) where
+    abbrev others : Option CountedSet
+    others = withMember (nodeCount T) (w .others) m true
+
+    grouped : CountedSet → Worklist
+    grouped o = record { first = w .first; others = o; groups = inserted 32 (w .groups) (m / 32) }
+
+    pub wait-done : ok ≡ true → Wrote T ws (waiting T m e) true (bitPut (groupsStart T) (m / 32) true mid)
+    unfolding waiting behind withBit grouped
+    wait-done p =
+        let r = wrote-true T ws (andThen others (λ o. some (put o))) mid ok (others-wrote m l ok mid h) p in
+        let t = then-some others (λ o. some (put o)) (r .0) (r .1) in
+        let q : mid ≡ written T ws (put (t .0)) = r .2 ∙ ap (written T ws) (sym (some-is (put (t .0)) (r .0) (t .2))) in
+        wrote-some T ws (waiting T m e) (bitPut (groupsStart T) (m / 32) true mid) (withWorklist e (grouped (t .0)))
+        (ap (λ o. andThen (andThen o (λ o. some (grouped o))) (λ v. some (withWorklist e v))) (t .1))
+        (ap (bitPut (groupsStart T) (m / 32) true) q ∙ group-stored (m / 32) (omega arith) true (put (t .0)) (others-fit (t .0) (length-members (nodeCount T) (w .others) m true (t .0) (t .1))))
+
+    pub wait-none : ok ≡ false → Wrote T ws (waiting T m e) false mid
+    unfolding waiting behind
+    wait-none p =
+        let r = wrote-false T ws (andThen others (λ o. some (put o))) mid ok (others-wrote m l ok mid h) p in
+        wrote-none T ws (waiting T m e) mid (rw (not-then others (r .0))) (r .1)
+      where
+        not-then : (o : Option CountedSet) → andThen o (λ o. some (put o)) ≡ none → o ≡ none
+        not-then none h = refl
+        not-then (some o) h = let z : _≡_ {A = ℕ} 0 1 = cc in absurd (omega arith)
+
+  -- ---- a node enters
+
+  pub queue-behind : (m : ℕ) (ok : Bool) (after : List ℕ) → getD ws 5 0 < m → Wrote T ws (waiting T m e) ok after → Wrote T ws (entered T m e) ok after
+  unfolding entered withNode waiting
+  queue-behind m ok after l h = rw (lt-ltb (w .first) m (rw (get-first T ws) at l)) h
+
+  pub queue-same : (m : ℕ) → m ≡ getD ws 5 0 → Wrote T ws (entered T m e) true ws
+  unfolding entered withNode
+  queue-same m p = wrote-some T ws (entered T m e) ws e (ap (λ x. andThen x (λ v. some (withWorklist e v))) (same (p ∙ get-first T ws))) (sym (written-same T ws long))
+    where
+      same : m ≡ w .first → withNode (nodeCount T) w m ≡ some w
+      same i = rw (le-ltb (w .first) m (omega (arith, i)), eq-eqb m (w .first) i)
+
+  -- the first replaced
+  first-stored : (m : ℕ) → set ws 5 m ≡ written T ws (withWorklist e (withFirst w m))
+  first-stored m = ap (λ x. set x 5 m) (sym (written-same T ws long)) ∙ put-first T ws long e fits m
+
+  first-fits : (m : ℕ) → Fits T (withWorklist e (withFirst w m))
+  first-fits m = worklist-fits T e (withFirst w m) (record { members = refl; groups = refl }) fits
+
+  module _ (m : ℕ) (l : m < getD ws 5 0) where
+    lower : m < w .first
+    lower = rw (get-first T ws) at l
+
+    passed : (a b : Option Worklist) → cond (ltb (w .first) m) a (cond (eqb m (w .first)) (some w) b) ≡ b
+    passed a b = rw (le-ltb (w .first) m (omega (arith, lower)), ne-eqb m (w .first) (λ z. omega (arith, lower, z)))
+
+    comes-first : nodeCount T ≤ w .first → withNode (nodeCount T) w m ≡ some (withFirst w m)
+    unfolding withNode
+    comes-first n =
+        passed (behind (nodeCount T) w m) (cond (ltb (w .first) (nodeCount T)) (behind (nodeCount T) (withFirst w m) (w .first)) (some (withFirst w m)))
+        ∙ ap (λ b. cond b (behind (nodeCount T) (withFirst w m) (w .first)) (some (withFirst w m))) (le-ltb (w .first) (nodeCount T) n)
+
+    pub queue-first : nodeCount T ≤ getD ws 5 0 → Wrote T ws (entered T m e) true (set ws 5 m)
+    unfolding entered
+    queue-first n =
+        wrote-some T ws (entered T m e) (set ws 5 m) (withWorklist e (withFirst w m))
+        (ap (λ x. andThen x (λ v. some (withWorklist e v))) (comes-first (rw (get-first T ws) at n)))
+        (first-stored m)
+
+    pub queue-lower : (ok : Bool) (after : List ℕ) → getD ws 5 0 < nodeCount T
+        → Wrote T (set ws 5 m) (waiting T (getD ws 5 0) (ofWords T (set ws 5 m))) ok after → Wrote T ws (entered T m e) ok after
+    unfolding entered withNode waiting
+    queue-lower ok after n h =
+        let d : Evaluation = withWorklist e (withFirst w m) in
+        let i : ofWords T (set ws 5 m) ≡ d = mid-holds T ws (set ws 5 m) d long (first-fits m) (first-stored m) in
+        let g = wrote-then T ws (set ws 5 m) d long (first-fits m) (first-stored m) (waiting T (getD ws 5 0) (ofWords T (set ws 5 m))) ok after h in
+        let s : waiting T (getD ws 5 0) (ofWords T (set ws 5 m)) ≡ waiting T (w .first) d = rw (i, get-first T ws) in
+        rw (passed (behind (nodeCount T) w m) (cond (ltb (w .first) (nodeCount T)) (behind (nodeCount T) (withFirst w m) (w .first)) (some (withFirst w m))), lt-ltb (w .first) (nodeCount T) (rw (get-first T ws) at n))
+        (rw s at g)
+
+  -- ---- the first leaves
+
+  pub dequeue-last : getD ws 4 0 ≡ 0 → Wrote T ws (dequeued T e) true (set ws 5 (nodeCount T))
+  unfolding dequeued withoutFirst
+  dequeue-last z =
+      wrote-some T ws (dequeued T e) (set ws 5 (nodeCount T)) (withWorklist e (withFirst w (nodeCount T)))
+      (rw (eq-eqb (w .others .size) 0 (sym (get-worklist-size T ws) ∙ z)))
+      (first-stored (nodeCount T))
+
+  module _ (some-wait : getD ws 4 0 ≡ 0 → ⊥) (k q : ℕ) (first : getD ws 5 0 ≡ k) (group : q ≡ next 32 (w .groups) (k / 32)) where
+    waits : eqb (w .others .size) 0 ≡ false
+    waits = ne-eqb (w .others .size) 0 (λ z. some-wait (get-worklist-size T ws ∙ z))
+
+    found-group : next 32 (w .groups) (w .first / 32) ≡ q
+    found-group = ap (λ i. next 32 (w .groups) (i / 32)) (sym (get-first T ws) ∙ first) ∙ sym group
+
+    pub dequeue-astray : words32 (nodeCount T) ≤ q → Wrote T ws (dequeued T e) false ws
+    unfolding dequeued withoutFirst advance
+    dequeue-astray l = wrote-none T ws (dequeued T e) ws (rw (waits, found-group, le-ltb q (words32 (nodeCount T)) l)) (beside-same T ws)
+
+    pub dequeue-next : (ok : Bool) (after : List ℕ) → Wrote T ws (advancedTo T q e) ok after → Wrote T ws (dequeued T e) ok after
+    unfolding dequeued withoutFirst advancedTo
+    dequeue-next ok after h = rw (waits, found-group) h
+
+  -- its lowest other, in word q
+  module _ (q : ℕ) (l : q < words32 (nodeCount T)) where
+    abbrev x : ℕ
+    x = getD ws (worklistStart T + q) 0
+
+    abbrev m : ℕ
+    m = 32 * q + trailingZeros 32 x
+
+    word : x ≡ getD (w .others .members) q 0
+    word = get-worklist T ws long q l
+
+    pub advance-empty : x ≡ 0 → Wrote T ws (advancedTo T q e) false ws
+    unfolding advancedTo advance filled
+    advance-empty z = wrote-none T ws (advancedTo T q e) ws (rw (lt-ltb q (words32 (nodeCount T)) l, eq-eqb (getD (w .others .members) q 0) 0 (sym word ∙ z))) (beside-same T ws)
+
+    module _ (ne : x ≡ 0 → ⊥) (small : x < 2 ^ 32) where
+      full : filled (w .others .members) q ≡ true
+      unfolding filled
+      full = rw (ne-eqb (getD (w .others .members) q 0) 0 (λ z. ne (word ∙ z)))
+
+      found : next 32 (w .others .members) (32 * q) ≡ m
+      found = next-hit 32 (w .others .members) q (omega arith) (omega (arith, fits .worklist)) (rw word at small) (λ z. ne (word ∙ z)) ∙ ap (λ y. 32 * q + trailingZeros 32 y) (sym word)
+
+      pub advance-low : m ≤ getD ws 5 0 → Wrote T ws (advancedTo T q e) false ws
+      unfolding advancedTo advance
+      advance-low h =
+          wrote-none T ws (advancedTo T q e) ws
+          (rw (found, lt-ltb q (words32 (nodeCount T)) l, full, le-ltb (w .first) m (rw (get-first T ws) at h))) (beside-same T ws)
+
+      -- the words that the code stores
+      abbrev t : ℕ
+      t = trailingZeros 32 x
+
+      abbrev left : ℕ
+      left = bitXor x ((1 * 2 ^ t) % 2 ^ 32)
+
+      below : t < 32
+      below = trailing-below 32 32 x (omega (arith, ne)) small (omega arith)
+
+      removed-is : set (w .others .members) q left ≡ removed 32 (w .others .members) m
+      unfolding removed
+      removed-is =
+          let a : m / 32 ≡ q = omega (arith, below) in
+          let b : m % 32 ≡ t = omega (arith, below) in
+          rw (a, b, ← word) (ap (set (w .others .members) q) (digit-off x t below (trailing-set 32 x (omega (arith, ne)) small)))
+
+      abbrev d1 : Evaluation
+      d1 = put (withMembers (w .others) (set (w .others .members) q left))
+
+      fits1 : Fits T d1
+      fits1 = others-fit (withMembers (w .others) (set (w .others .members) q left)) (length-set (w .others .members) q left)
+
+      stored1 : set ws (worklistStart T + q) left ≡ written T ws d1
+      stored1 = ap (λ y. set y (worklistStart T + q) left) (sym (written-same T ws long)) ∙ put-worklist T ws long e fits q left l
+
+      groups : List ℕ
+      groups = cond (eqb left 0) (removed 32 (w .groups) q) (w .groups)
+
+      abbrev d2 : Evaluation
+      d2 = withWorklist d1 (withGroups (d1 .worklist) groups)
+
+      stored2 : regrouped (groupsStart T) q left (set ws (worklistStart T + q) left) ≡ written T ws d2
+      unfolding regrouped groups withBit
+      stored2 = ap (λ y. cond (eqb left 0) (bitPut (groupsStart T) q false y) y) stored1 ∙ go (eqb left 0)
+        where
+          go : (b : Bool) → cond b (bitPut (groupsStart T) q false (written T ws d1)) (written T ws d1)
+              ≡ written T ws (withWorklist d1 (withGroups (d1 .worklist) (cond b (removed 32 (w .groups) q) (w .groups))))
+          go true = group-stored q (omega arith) false d1 fits1
+          go false = refl
+
+      fits2 : Fits T d2
+      unfolding groups
+      fits2 = worklist-fits T d1 (withGroups (d1 .worklist) groups) (record { members = refl; groups = go (eqb left 0) }) fits1
+        where
+          go : (b : Bool) → length (cond b (removed 32 (w .groups) q) (w .groups)) ≡ length (w .groups)
+          go true = length-removed 32 (w .groups) q
+          go false = refl
+
+      -- after the group
+      abbrev mid : List ℕ
+      mid = regrouped (groupsStart T) q left (set ws (worklistStart T + q) left)
+
+      pub count-stays : getD mid 4 0 ≡ getD ws 4 0
+      count-stays = get-worklist-size T mid ∙ ap (λ y. ofWords T y .worklist .others .size) stored2 ∙ ap (λ y. y .worklist .others .size) (of-written T ws long d2 fits2) ∙ sym (get-worklist-size T ws)
+
+      after : List ℕ → Worklist
+      after g = record { first = m; others = record { members = set (w .others .members) q left; size = w .others .size - 1 }; groups = g }
+
+      advanced-is : w .first < m → advance (nodeCount T) w q m ≡ some (after groups)
+      unfolding advance advanced groups filled after
+      advanced-is h =
+          rw (lt-ltb q (words32 (nodeCount T)) l, lt-ltb (w .first) m h, ne-eqb (getD (w .others .members) q 0) 0 (λ z. ne (word ∙ z)), ← removed-is, getD-set-same (w .others .members) q left 0 (omega (arith, fits .worklist)))
+          (go (eqb left 0))
+        where
+          go : (b : Bool) → _≡_ {A = Option Worklist} (some (after (cond (not b) (w .groups) (removed 32 (w .groups) q)))) (some (after (cond b (removed 32 (w .groups) q) (w .groups))))
+          go true = refl
+          go false = refl
+
+      pub advance-done : getD ws 5 0 < m → Wrote T ws (advancedTo T q e) true (set (set mid 4 (getD mid 4 0 - 1)) 5 m)
+      unfolding advancedTo after
+      advance-done h =
+          wrote-some T ws (advancedTo T q e) (set (set mid 4 (getD mid 4 0 - 1)) 5 m) d4
+          (rw found (ap (λ o. andThen o (λ v. some (withWorklist e v))) (advanced-is (rw (get-first T ws) at h))))
+          (ap (λ n. set (set mid 4 (n - 1)) 5 m) (count-stays ∙ get-worklist-size T ws)
+          ∙ ap (λ y. set (set y 4 (w .others .size - 1)) 5 m) stored2
+          ∙ ap (λ y. set y 5 m) (put-worklist-size T ws long d2 fits2 (w .others .size - 1))
+          ∙ put-first T ws long d3 fits3 m)
+        where
+          d3 : Evaluation
+          d3 = withWorklist d2 (withOthers (d2 .worklist) (record { members = set (w .others .members) q left; size = w .others .size - 1 }))
+
+          d4 : Evaluation
+          d4 = withWorklist d3 (withFirst (d3 .worklist) m)
+
+          fits3 : Fits T d3
+          fits3 = worklist-fits T d2 (withOthers (d2 .worklist) (record { members = set (w .others .members) q left; size = w .others .size - 1 })) (record { members = refl; groups = refl }) fits2
