@@ -75,7 +75,7 @@ module _ (n : ℕ) (w : Worklist) (m : ℕ) (r : Worklist) where
   abbrev Enters : Type 0
   Enters = Alike w r × ((k : ℕ) → k < m → k < w .first → k < r .first)
 
-  node-is : withNode n w m ≡ some r → Enters
+  pub node-is : withNode n w m ≡ some r → Enters
   unfolding withNode
   node-is e = go (ltb (w .first) m) refl (eqb m (w .first)) (ltb (w .first) n) e
     where
@@ -117,7 +117,7 @@ module _ (n : ℕ) (w : Worklist) (r : Worklist) where
         λ l. omega (arith, x, ltb-true (w .first) m b),
       )
 
-  left-is : withoutFirst n w ≡ some r → Leaves
+  pub left-is : withoutFirst n w ≡ some r → Leaves
   unfolding withoutFirst
   left-is e = go (eqb (w .others .size) 0) e
     where

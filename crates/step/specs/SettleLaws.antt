@@ -74,11 +74,11 @@ module _ (T : Tables) (ws : List ℕ) (long : used T ≤ length ws) (k : ℕ) (l
     unfolding settledTo
     settle-astray r = wrote-none T ws (settledTo T k t e) ws (rw (differs false p, list-not T k o q r)) (beside-same T ws)
 
-    pub settle-told : o ≡ true → (mid : List ℕ) → mid ≡ set ws (16 + k) (truthWord t) → (list : List ℕ) → list ≡ laid.listAt (T .readers) k
+    pub settle-told : o ≡ true → (mid : List ℕ) → mid ≡ set ws (8 + k) (truthWord t) → (list : List ℕ) → list ≡ laid.listAt (T .readers) k
         → (ok : Bool) (after : List ℕ) → Wrote T mid (readersUpdated T k t (ofWords T mid) list) ok after → Wrote T ws (settledTo T k t e) ok after
     unfolding settledTo
     settle-told r mid m list s ok after w =
-        let put : mid ≡ written T ws become = m ∙ ap (λ x. set x (16 + k) (truthWord t)) (sym (written-same T ws long)) ∙ put-truth T ws long e (fits-of T ws long) k (truthWord t) l in
+        let put : mid ≡ written T ws become = m ∙ ap (λ x. set x (8 + k) (truthWord t)) (sym (written-same T ws long)) ∙ put-truth T ws long e (fits-of T ws long) k (truthWord t) l in
         let f : Fits T become = truths-fit T e k (truthWord t) (fits-of T ws long) in
         rw (differs false p, list-there T k o q r)
         (wrote-then T ws mid become long f put (readersUpdated T k t become (laid.listAt (T .readers) k)) ok after

@@ -2,7 +2,7 @@
 -- Assumes nothing.
 use Prim.Native.Nat.{ℕ, _*_, _≤_}
 use mathlib.Core.Path.{_≡_}
-use mathlib.Core.Bool.{Bool, false, cond}
+use mathlib.Core.Bool.{Bool, cond}
 use mathlib.Core.List.{List}
 use mathlib.Core.Option.{Option, some}
 use lib.ListN.{set}
@@ -10,7 +10,8 @@ use Rattle.theory.specs.Limits.{Limited}
 use Rattle.theory.specs.declared.Counts.{Counts}
 use Rattle.words.specs.Changed.{unlike}
 use Rattle.readers.specs.ReaderTable.{readerWords}
-use Rattle.kept.specs.CountedSet.{andThen, withMember}
+use Rattle.kept.specs.CountedSet.{andThen}
+use Rattle.kept.specs.Worklist.{withoutFirst}
 use Rattle.kept.specs.Tables.{Tables, nodeCount, readersAt}
 use Rattle.kept.specs.Evaluation.{Evaluation, truthAt, truthWord}
 use Rattle.kept.specs.Parts.{withTruths}
@@ -35,9 +36,9 @@ pub record Lent (t : Counts) (made nodes operands producers readers kept : ℕ) 
 unfoldable pub settledTo : Tables → ℕ → Bool → Evaluation → Option Evaluation
 settledTo T k t e = cond (unlike (truthAt e k) t) (andThen (readersAt T k) (readersUpdated T k t (withTruths e (set (e .truths) k (truthWord t))))) (some e)
 
--- node k taken off the worklist, and become t
+-- node k, the first of the worklist, taken off it, and become t
 unfoldable pub takenFrom : Tables → ℕ → Bool → Evaluation → Stepped
-takenFrom T k t e = settledFrom T k e (some t) (withMember (nodeCount T) (e .worklist) k false)
+takenFrom T k t e = settledFrom T k e (some t) (withoutFirst (nodeCount T) (e .worklist))
 
 abbrev pub Steps : Tables → List ℕ → Stepped → Taking → List ℕ → Type 0
 Steps T ws idle r after = (r ≡ Idle) × (after ≡ ws)

@@ -1,13 +1,15 @@
 -- A node leaves the worklist and gets its truth.
 -- Assumes nothing.
 use Prim.Native.Nat.{ℕ, _≤_}
+use native.Mathlib.Omega.{arith}
 use mathlib.Core.Path.{_≡_, refl, ap, sym, _∙_}
 use mathlib.Core.Bool.{Bool, true, false, cond}
 use mathlib.Core.List.{List}
-use mathlib.Core.Option.{Option, some}
+use mathlib.Core.Option.{Option, some, none}
 use lib.ListN.{length, set}
 use Rattle.words.specs.Changed.{unlike}
-use Rattle.kept.specs.CountedSet.{andThen, CountedSet, withMember}
+use Rattle.kept.specs.CountedSet.{andThen}
+use Rattle.kept.specs.Worklist.{Worklist, withoutFirst}
 use Rattle.kept.specs.Tables.{Tables, nodeCount, readersAt}
 use Rattle.kept.specs.Evaluation.{Evaluation, truthAt, truthWord}
 use Rattle.kept.specs.Parts.{withTruths, withWorklist}
@@ -15,7 +17,7 @@ use Rattle.kept.specs.Step.{readersUpdated, took, tookAt, settled}
 use Rattle.kept.specs.Layout.{ofWords, written, used}
 use Rattle.kept.specs.LayoutLaws.{Fits, fits-of}
 use Rattle.kept_laws.specs.OptionLaws.{some-is, then-some}
-use Rattle.kept_laws.specs.FitsLaws.{length-members, worklist-fits}
+use Rattle.kept_laws.specs.FitsLaws.{left-is, worklist-fits}
 use Rattle.kept_laws.specs.Wrote.{Wrote, mid-holds, wrote-true, wrote-false, wrote-then}
 use Rattle.retained.specs.Changes.{dequeued}
 use Rattle.step.specs.declared.Taking.the-variants.{Took, Fault}
@@ -34,18 +36,30 @@ module _ (T : Tables) (k : ℕ) where
       go false = refl
 
   -- what leaving the worklist gives
-  off : (e d : Evaluation) → dequeued T k e ≡ some d → (w : CountedSet) × (withMember (nodeCount T) (e .worklist) k false ≡ some w) × (d ≡ withWorklist e w)
+  off : (e d : Evaluation) → dequeued T e ≡ some d → (w : Worklist) × (withoutFirst (nodeCount T) (e .worklist) ≡ some w) × (d ≡ withWorklist e w)
   unfolding dequeued
   off e d h =
-      let p = then-some (withMember (nodeCount T) (e .worklist) k false) (λ w. some (withWorklist e w)) d h in
+      let p = then-some (withoutFirst (nodeCount T) (e .worklist)) (λ w. some (withWorklist e w)) d h in
       (p .0, p .1, sym (some-is (withWorklist e (p .0)) d (p .2)))
 
-  module _ (ws : List ℕ) (long : used T ≤ length ws) (t : Bool) (mid : List ℕ) (w : Wrote T ws (dequeued T k (ofWords T ws)) true mid) where
+  off-not : (e : Evaluation) → dequeued T e ≡ none → withoutFirst (nodeCount T) (e .worklist) ≡ none
+  unfolding dequeued
+  off-not e h = go (withoutFirst (nodeCount T) (e .worklist)) h
+    where
+      go : (o : Option Worklist) → andThen o (λ w. some (withWorklist e w)) ≡ none → o ≡ none
+      go none h = refl
+      go (some w) h = let z : _≡_ {A = ℕ} 0 1 = cc in absurd (omega arith)
+
+  module _ (ws : List ℕ) (long : used T ≤ length ws) (t : Bool) (ok : Bool) (mid : List ℕ) (w : Wrote T ws (dequeued T (ofWords T ws)) ok mid) where
     abbrev e : Evaluation
     e = ofWords T ws
 
+    pub take-stuck : ok ≡ false → Steps T ws (takenFrom T k t e) (Fault 0) mid
+    unfolding takenFrom
+    take-stuck q = let r = wrote-false T ws (dequeued T e) mid ok w q in rw (off-not e (r .0)) (refl, r .1)
+
     -- then it became t, or there was a 17
-    module _ (yes : Bool) (after : List ℕ) (s : Wrote T mid (settledTo T k t (ofWords T mid)) yes after) where
+    module _ (gone : ok ≡ true) (yes : Bool) (after : List ℕ) (s : Wrote T mid (settledTo T k t (ofWords T mid)) yes after) where
       record Left : Type 0 where
         out : Evaluation
         is : takenFrom T k t e ≡ tookAt k (settledTo T k t out)
@@ -54,11 +68,11 @@ module _ (T : Tables) (k : ℕ) where
       left : Left
       unfolding takenFrom
       left =
-          let r = wrote-true T ws (dequeued T k e) mid true w refl in
+          let r = wrote-true T ws (dequeued T e) mid ok w gone in
           let o = off e (r .0) (r .1) in
           let d : Evaluation = withWorklist e (o .0) in
           let put : mid ≡ written T ws d = r .2 ∙ ap (written T ws) (o .2) in
-          let f : Fits T d = worklist-fits T e (o .0) (length-members (nodeCount T) (e .worklist) k false (o .0) (o .1)) (fits-of T ws long) in
+          let f : Fits T d = worklist-fits T e (o .0) (left-is (nodeCount T) (e .worklist) (o .0) (o .1) .0) (fits-of T ws long) in
           record {
             out = d;
             is = rw (o .1) (settled-is t d);

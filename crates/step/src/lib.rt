@@ -1,19 +1,17 @@
 // One step of a kept check: the lowest node of the worklist gets its truth, and its readers are told if that changed.
 ghost use mathlib.Core.Path.{_≡_};
-ghost use mathlib.Core.Bool.{Bool, true, false};
+ghost use mathlib.Core.Bool.{Bool};
 ghost use mathlib.Core.Option.{some};
-ghost use Prim.Native.Nat.{_+_, _*_, _/_, _%_, _<_, _≤_};
+ghost use Prim.Native.Nat.{_+_, _*_, _<_, _≤_};
 ghost use lib.ListN.{length, getD, set};
 ghost use Rattle.theory.specs.Limits.{Limited};
-ghost use Rattle.words.specs.Bit.{bit};
-ghost use Rattle.words.specs.Next.{next};
 ghost use Rattle.readers.specs.Reader.{readingOf};
 ghost use Rattle.readers.specs.ReaderTable.{readerWords};
 ghost use Rattle.kept.specs.Tables.{Tables};
 ghost use Rattle.kept.specs.Evaluation.{truthWord};
 ghost use Rattle.kept.specs.Layout.{ofWords};
 ghost use Rattle.kept.specs.Step.{readerUpdated, readersUpdated, step};
-ghost use Rattle.kept_laws.specs.Given.{usedBy, sized, produced, told, walked};
+ghost use Rattle.kept_laws.specs.Given.{usedBy, produced, told, walked};
 ghost use Rattle.kept_laws.specs.Wrote.{Wrote};
 ghost use Rattle.node_truth.specs.InWords.{seenOf};
 ghost use Rattle.step.specs.Steps.{Lent, settledTo, takenFrom, Steps};
@@ -97,13 +95,13 @@ fn update_readers(
 
 // Node k becomes true or false.
 fn store(kept: &mut [u32], k: usize, holds: bool)
-    requires { ⌜ 16 + k < length (now kept) ⌝ }
-    ensures { λ _. ⌜ now (kept .exit) ≡ set (now (kept .entry)) (16 + k) (truthWord holds) ⌝ }
+    requires { ⌜ 8 + k < length (now kept) ⌝ }
+    ensures { λ _. ⌜ now (kept .exit) ≡ set (now (kept .entry)) (8 + k) (truthWord holds) ⌝ }
 {
     if holds {
-        kept[16 + k] = 1;
+        kept[8 + k] = 1;
     } else {
-        kept[16 + k] = 0;
+        kept[8 + k] = 0;
     }
 }
 
@@ -127,19 +125,12 @@ fn settle(
     if !readers::in_order(readers, size, k) {
         return false;
     }
+    let list = readers::readers_of(readers, k);
     store(kept, k, holds);
-    update_readers(
-        counts,
-        made,
-        producers,
-        readers::readers_of(readers, k),
-        kept,
-        k,
-        holds,
-    )
+    update_readers(counts, made, producers, list, kept, k, holds)
 }
 
-// Node k, on the worklist, leaves it and gets its truth.
+// Node k, the first of the worklist, leaves it and gets its truth.
 fn take(
     counts: Counts,
     made: usize,
@@ -149,25 +140,17 @@ fn take(
     k: usize,
     holds: bool,
 ) -> Taking
-    requires { ⌜ Limited counts × (made ≤ counts .roots) × (4 * counts .roots ≤ length (now producers)) × (readerWords counts ≤ length (now readers)) × (usedBy counts ≤ length (now kept)) × (k < counts .nodes) × (bit (getD (now kept) (16 + counts .nodes + k / 32) 0) (k % 32) ≡ true) × (0 < getD (now kept) 4 0) ⌝ }
+    requires { ⌜ Limited counts × (made ≤ counts .roots) × (4 * counts .roots ≤ length (now producers)) × (readerWords counts ≤ length (now readers)) × (usedBy counts ≤ length (now kept)) × (k < counts .nodes) × (getD (now kept) 5 0 ≡ k) ⌝ }
     ensures { λ r. ⌜ ((T : Tables) → Steps (told counts made (now (producers .entry)) (now (readers .entry)) T) (now (kept .entry)) (takenFrom (told counts made (now (producers .entry)) (now (readers .entry)) T) k holds (ofWords (told counts made (now (producers .entry)) (now (readers .entry)) T) (now (kept .entry)))) r (now (kept .exit))) ⌝ }
 {
-    retained::dequeue(counts, kept, k);
+    if !retained::dequeue(counts, kept, k) {
+        return Taking::Fault(0);
+    }
     if settle(counts, made, producers, readers, kept, k, holds) {
         Taking::Took(k)
     } else {
         Taking::Fault(k)
     }
-}
-
-// The lowest node of the worklist from node `from` on.
-fn lowest_queued(counts: Counts, kept: &[u32], from: usize) -> usize
-    requires { ⌜ Limited counts × (usedBy counts ≤ length (now kept)) × (from ≤ counts .nodes) ⌝ }
-    ensures { λ r. ⌜ ((T : Tables) → r ≡ next 32 (ofWords (sized counts T) (now (kept .entry)) .worklist .members) from) ⌝ }
-{
-    let at = 16 + counts.nodes;
-    let end = at + (counts.nodes + 31) / 32;
-    words::set32::next(&kept[at..end], from)
 }
 
 // The truth that was seen; of a stray node, false.
@@ -180,7 +163,7 @@ fn is_true(seen: Seen) -> bool
     }
 }
 
-// One step; the nodes below `from` have been gone over.
+// One step: the first node of the worklist, if there is one.
 pub fn step(
     counts: Counts,
     made: usize,
@@ -189,17 +172,16 @@ pub fn step(
     producers: &[u32],
     readers: &[u64],
     kept: &mut [u32],
-    from: usize,
 ) -> Taking
-    requires { ⌜ Lent counts made (length (now nodes)) (length (now operands)) (length (now producers)) (length (now readers)) (length (now kept)) × (from ≤ counts .nodes) ⌝ }
-    ensures { λ r. ⌜ ((T : Tables) → Steps (walked counts made (now (nodes .entry)) (now (operands .entry)) (now (producers .entry)) (now (readers .entry)) T) (now (kept .entry)) (step (walked counts made (now (nodes .entry)) (now (operands .entry)) (now (producers .entry)) (now (readers .entry)) T) from (ofWords (walked counts made (now (nodes .entry)) (now (operands .entry)) (now (producers .entry)) (now (readers .entry)) T) (now (kept .entry)))) r (now (kept .exit))) ⌝ }
+    requires { ⌜ Lent counts made (length (now nodes)) (length (now operands)) (length (now producers)) (length (now readers)) (length (now kept)) ⌝ }
+    ensures { λ r. ⌜ ((T : Tables) → Steps (walked counts made (now (nodes .entry)) (now (operands .entry)) (now (producers .entry)) (now (readers .entry)) T) (now (kept .entry)) (step (walked counts made (now (nodes .entry)) (now (operands .entry)) (now (producers .entry)) (now (readers .entry)) T) (ofWords (walked counts made (now (nodes .entry)) (now (operands .entry)) (now (producers .entry)) (now (readers .entry)) T) (now (kept .entry)))) r (now (kept .exit))) ⌝ }
 {
-    if kept[4] == 0 {
-        return Taking::Idle;
-    }
-    let k = lowest_queued(counts, kept, from);
-    if k >= counts.nodes {
+    let k = words::word(kept, 5);
+    if k > counts.nodes {
         return Taking::Fault(0);
+    }
+    if k == counts.nodes {
+        return Taking::Idle;
     }
     let seen = node_truth::node_truth(counts, nodes, operands, kept, k);
     if let Seen::Stray = seen {
