@@ -43,7 +43,7 @@ module _ (T : Tables) (ws : List ℕ) (long : used T ≤ length ws) where
     unfolding truthSet
     truth-stored none p ok after s = rw (read none p) (s .0, rw (s .1) (beside-same T ws))
     truth-stored (some t) p ok after s =
-        rw (read (some t) p) (s .0, s .1 ∙ ap (λ w. set w (16 + k) (truthWord t)) (sym same) ∙ put-truth T ws long e (fits-of T ws long) k (truthWord t) l)
+        rw (read (some t) p) (s .0, s .1 ∙ ap (λ w. set w (8 + k) (truthWord t)) (sym same) ∙ put-truth T ws long e (fits-of T ws long) k (truthWord t) l)
 
   -- ---- producer p
 

@@ -7,7 +7,7 @@ use mathlib.Core.Logic.{⊎-elim}
 use mathlib.Core.Bool.{Bool, true, false, not, _&&_}
 use mathlib.Core.List.{List}
 use lib.Dec.{eqb}
-use lib.ListN.{getD, List·getD-eq-default}
+use lib.ListN.{getD, replicate, length-replicate, getD-replicate, List·getD-eq-default}
 use borrow.Author.Tests.{lt-ltb, le-ltb}
 use Rattle.base.specs.Tests.{below-or}
 use Rattle.base.specs.Places.{places-none, count-none}
@@ -18,18 +18,42 @@ use Rattle.theory.specs.Node.{nodeAt}
 use Rattle.theory.specs.NodeTruth.{nodeTruth, nodeTruths}
 use Rattle.words.specs.Sets.{member}
 use Rattle.kept.specs.Tabulate.{tabulate, tabulate-at, length-tabulate}
-use Rattle.kept.specs.SetOf.{allInserted, setOf}
+use Rattle.kept.specs.SetOf.{words32, allInserted, setOf}
 use Rattle.kept.specs.SetOfLaws.{member-setOf}
 use Rattle.kept.specs.CountedSet.{countedSet}
 use Rattle.kept.specs.CountedSetLaws.{counted-agree}
+use Rattle.kept.specs.Worklist.{filled, butLowest, worklistOf}
+use Rattle.kept.specs.WorklistLaws.{first-none}
 use Rattle.kept.specs.Tables.{Tables, atomCount, nodeCount, rootCount}
 use Rattle.kept.specs.Evaluation.{Evaluation, truthAt, present, noMembers, truthWord, held, truth, support, falseRoot, summary, fresh}
 use Rattle.complete.specs.Phases.{lacks, begun, truthsLaid, supportLaid, missingLaid, rootsLaid, summarised}
 use Rattle.complete.specs.TruthLaws.{nonzero}
 
-nobody : (n : ℕ) → noMembers n ≡ countedSet (λ k. false) n
-unfolding countedSet setOf allInserted
-nobody n = rw (places-none (λ k. false) 0 n (λ j a b. refl), count-none (λ k. false) 0 n (λ j a b. refl))
+-- ---- nothing waits
+
+no-word : (f : ℕ → Bool) (n : ℕ) → ((j : ℕ) → f j ≡ false) → replicate (words32 n) 0 ≡ setOf f n
+unfolding setOf allInserted
+no-word f n h = rw (places-none f 0 n (λ j a b. h j))
+
+nobody : (f : ℕ → Bool) (n : ℕ) → ((j : ℕ) → f j ≡ false) → noMembers n ≡ countedSet f n
+unfolding countedSet
+nobody f n h = rw (← no-word f n h, count-none f 0 n (λ j a b. h j))
+
+no-group : (n q : ℕ) → filled (replicate (words32 n) 0) q ≡ false
+unfolding filled
+no-group n q = ap (λ x. not (eqb x 0)) (⊎-elim
+    (λ l. getD-replicate {A = ℕ} (words32 n) q 0 0 l)
+    (λ l. List·getD-eq-default (replicate (words32 n) 0) 0 {n = q} (omega (arith, length-replicate {A = ℕ} (words32 n) 0)))
+    (below-or q (words32 n)))
+
+nothing-listed : (n : ℕ) → record { first = n; others = noMembers n; groups = replicate (words32 n) 0 } ≡ worklistOf (λ k. false) n
+unfolding worklistOf butLowest
+nothing-listed n = λ i.
+    record {
+      first = sym (first-none (λ k. false) n (λ j l. refl)) i;
+      others = nobody (butLowest (λ k. false) n) n (λ j. refl) i;
+      groups = (no-word (filled (replicate (words32 n) 0)) n (no-group n) ∙ ap (λ l. setOf (filled l) n) (no-word (butLowest (λ k. false) n) n (λ j. refl))) i;
+    }
 
 module _ (T : Tables) (J : Interpretation) where
   -- a number that is no node is not true
@@ -87,7 +111,7 @@ module _ (T : Tables) (J : Interpretation) where
           state = 1;
           stamp = T .counts .stamp;
           truths = tabulate (nodeCount T) (λ k. truthWord (truth T (first-present i) k));
-          worklist = nobody (nodeCount T) i;
+          worklist = nothing-listed (nodeCount T) i;
           support = tabulate (atomCount T) (support T (told i));
           candidate = setOf J (atomCount T);
           missing = counted-agree (lacks (supportLaid T (truthsLaid T first))) (λ a. J a && eqb (support T (truth T J) a) 0) (atomCount T) lack i;

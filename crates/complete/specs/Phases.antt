@@ -32,14 +32,14 @@ summed t made roots producers T = planned t made (T .nodes) (T .operands) roots 
 
 -- ---- reset
 
--- the header of a held check, with counts of 0
+-- the header of a held check, with counts of 0 and no first node of the worklist
 unfoldable pub opened : Tables → Evaluation → Evaluation
 opened T e =
     record {
       state = 1;
       stamp = T .counts .stamp;
       truths = e .truths;
-      worklist = record { members = e .worklist .members; size = 0 };
+      worklist = record { first = nodeCount T; others = record { members = e .worklist .others .members; size = 0 }; groups = e .worklist .groups };
       support = e .support;
       candidate = e .candidate;
       missing = record { members = e .missing .members; size = 0 };
@@ -53,7 +53,12 @@ emptied T e =
       state = e .state;
       stamp = e .stamp;
       truths = e .truths;
-      worklist = record { members = replicate (words32 (nodeCount T)) 0; size = e .worklist .size };
+      worklist =
+          record {
+            first = e .worklist .first;
+            others = record { members = replicate (words32 (nodeCount T)) 0; size = e .worklist .others .size };
+            groups = replicate (words32 (nodeCount T)) 0;
+          };
       support = replicate (atomCount T) 0;
       candidate = e .candidate;
       missing = record { members = replicate (words32 (atomCount T)) 0; size = e .missing .size };
@@ -71,7 +76,7 @@ begun T truths candidate =
       state = 1;
       stamp = T .counts .stamp;
       truths = truths;
-      worklist = noMembers (nodeCount T);
+      worklist = record { first = nodeCount T; others = noMembers (nodeCount T); groups = replicate (words32 (nodeCount T)) 0 };
       support = replicate (atomCount T) 0;
       candidate = candidate;
       missing = noMembers (atomCount T);
@@ -83,7 +88,7 @@ begun T truths candidate =
 -- the word of node k gets a truth that was read; ok tells whether there is one
 abbrev pub Stored : List ℕ → ℕ → Option Bool → Bool → List ℕ → Type 0
 Stored ws k none ok after = (ok ≡ false) × (after ≡ ws)
-Stored ws k (some t) ok after = (ok ≡ true) × (after ≡ set ws (16 + k) (truthWord t))
+Stored ws k (some t) ok after = (ok ≡ true) × (after ≡ set ws (8 + k) (truthWord t))
 
 -- node k by the lower ones
 unfoldable pub truthSet : Tables → ℕ → Evaluation → Option Evaluation

@@ -1,61 +1,90 @@
--- Two sections of the lent words that stand one after the other, lent as one slice and given back.
+-- Sections of the lent words that stand one after the other, lent as one slice and given back.
 -- Assumes nothing.
-use Prim.Native.Nat.{ℕ, zero, suc, _<_, _≤_, _+_}
+use Prim.Native.Nat.{ℕ, _≤_, _+_}
 use native.Mathlib.Omega.{arith}
-use native.Mathlib.Nat.{zero-add, add-assoc}
-use mathlib.Core.Path.{_≡_, ap, _∙_}
+use mathlib.Core.Path.{_≡_, refl, ap, sym, _∙_}
 use mathlib.Core.List.{List, [], _∷_, _++_, append-assoc}
-use lib.ListN.{length, getD, set, take, drop}
-use lib.Seq.{drop-append-seam, take-append-add, drop-append-add}
+use lib.ListN.{length, take, drop, replicate, length-append, replicate-append-replicate}
+use lib.Seq.{take-append-seam, drop-append-seam, drop-append-add}
 use Rattle.kept.specs.Tables.{Tables}
 use Rattle.kept.specs.Evaluation.{Evaluation}
 use Rattle.kept.specs.Parts.{withWorklist, withSupport, withFalseRoots}
-use Rattle.kept.specs.Layout.{flat, parts, image, section, written, worklistStart, candidateStart, missingStart, used}
+use Rattle.kept.specs.Layout.{flat, header, image, section, written, worklistStart, candidateStart, missingStart, used}
 use Rattle.kept.specs.LayoutLaws.{Fits, length-unused}
-use Rattle.kept_laws.specs.Stores.{start, withMembers}
+use Rattle.kept_laws.specs.Stores.{withMembers, withOthers, withGroups}
 
-flat-two : (xs : List (List ℕ)) (k : ℕ) (y z : List ℕ) → suc k < length xs
-    → take (start xs k) (flat xs) ++ ((y ++ z) ++ drop (start xs k + (length (getD xs k []) + length (getD xs (suc k) []))) (flat xs)) ≡ flat (set (set xs k y) (suc k) z)
-unfolding flat start
-flat-two [] k y z l = absurd (omega arith)
-flat-two (x ∷ []) k y z l = absurd (omega arith)
-flat-two (x ∷ v ∷ xs) zero y z l =
-    rw (zero-add (length x + length v), drop-append-add x (v ++ flat xs) (length v), drop-append-seam v (flat xs))
-    (append-assoc y z (flat xs))
-flat-two (x ∷ v ∷ xs) (suc k) y z l =
+-- ---- parts laid end to end
+
+flat-append : (xs ys : List (List ℕ)) → flat (xs ++ ys) ≡ flat xs ++ flat ys
+unfolding flat
+flat-append [] ys = refl
+flat-append (x ∷ xs) ys = ap (λ l. x ++ l) (flat-append xs ys) ∙ sym (append-assoc x (flat xs) (flat ys))
+
+-- the parts xs lent, and given back as ys
+flat-between : (before xs ys behind : List (List ℕ)) (a b : ℕ) → a ≡ length (flat before) → b ≡ a + length (flat xs)
+    → take a (flat (before ++ (xs ++ behind))) ++ (flat ys ++ drop b (flat (before ++ (xs ++ behind)))) ≡ flat (before ++ (ys ++ behind))
+flat-between before xs ys behind a b p q =
     rw (
-      take-append-add x (flat (v ∷ xs)) (start (v ∷ xs) k),
-      add-assoc (length x) (start (v ∷ xs) k) (length (getD (v ∷ xs) k []) + length (getD (v ∷ xs) (suc k) [])),
-      drop-append-add x (flat (v ∷ xs)) (start (v ∷ xs) k + (length (getD (v ∷ xs) k []) + length (getD (v ∷ xs) (suc k) []))),
+      q,
+      p,
+      flat-append before (xs ++ behind),
+      flat-append before (ys ++ behind),
+      flat-append xs behind,
+      flat-append ys behind,
+      take-append-seam (flat before) (flat xs ++ flat behind),
+      drop-append-add (flat before) (flat xs ++ flat behind) (length (flat xs)),
+      drop-append-seam (flat xs) (flat behind),
     )
-    (append-assoc x (take (start (v ∷ xs) k) (flat (v ∷ xs))) ((y ++ z) ++ drop (start (v ∷ xs) k + (length (getD (v ∷ xs) k []) + length (getD (v ∷ xs) (suc k) []))) (flat (v ∷ xs)))
-    ∙ ap (λ l. x ++ l) (flat-two (v ∷ xs) k y z (omega arith)))
+
+-- parts of zeros, of these lengths
+abbrev pub zeroParts : List ℕ → List (List ℕ)
+zeroParts [] = []
+zeroParts (n ∷ ns) = replicate n 0 ∷ zeroParts ns
+
+abbrev pub total : List ℕ → ℕ
+total [] = 0
+total (n ∷ ns) = n + total ns
+
+pub flat-zeros : (ns : List ℕ) → replicate (total ns) 0 ≡ flat (zeroParts ns)
+unfolding flat
+flat-zeros [] = refl
+flat-zeros (n ∷ ns) = sym (replicate-append-replicate {A = ℕ} n (total ns) 0) ∙ ap (λ l. replicate n 0 ++ l) (flat-zeros ns)
+
+-- ---- the parts of an evaluation
 
 module _ (T : Tables) (ws : List ℕ) (long : used T ≤ length ws) (e : Evaluation) (fits : Fits T e) where
-  abbrev ps : List (List ℕ)
-  ps = parts e (section T ws 1) (section T ws 8)
+  abbrev unused : List ℕ
+  unused = section T ws 1
 
-  eleven : length (section T ws 1) ≡ 11
-  eleven = length-unused T ws long
+  abbrev rest : List ℕ
+  rest = section T ws 9
 
-  lend-two : (k a b : ℕ) (y z : List ℕ) → suc k < 9 → a ≡ start ps k → b ≡ a + (length (getD ps k []) + length (getD ps (suc k) []))
-      → take a (written T ws e) ++ ((y ++ z) ++ drop b (written T ws e)) ≡ flat (set (set ps k y) (suc k) z)
-  unfolding written image
-  lend-two k a b y z l p q = rw (q, p) (flat-two ps k y z l)
+  two : length unused ≡ 2
+  two = length-unused T ws long
 
-  -- worklist and support; missing atoms and false roots
-  pub lend-worklist-support : (y z : List ℕ) → take (worklistStart T) (written T ws e) ++ ((y ++ z) ++ drop (candidateStart T) (written T ws e))
-      ≡ written T ws (withSupport (withWorklist e (withMembers (e .worklist) y)) z (e .missing))
-  unfolding written image start
-  lend-worklist-support y z = lend-two 3 (worklistStart T) (candidateStart T) y z (omega arith) at (omega (arith, fits .worklist, fits .support))
+  -- worklist and support; missing atoms, false roots and the worklist's groups
+  pub lend-worklist-support : (y z : List ℕ) → take (worklistStart T) (written T ws e) ++ (flat (y ∷ z ∷ []) ++ drop (candidateStart T) (written T ws e))
+      ≡ written T ws (withSupport (withWorklist e (withOthers (e .worklist) (withMembers (e .worklist .others) y))) z (e .missing))
+  unfolding written image flat
+  lend-worklist-support y z =
+      flat-between (header e ∷ unused ∷ e .truths ∷ []) (e .worklist .others .members ∷ e .support ∷ []) (y ∷ z ∷ [])
+      (e .candidate ∷ e .missing .members ∷ e .falseRoots .members ∷ e .worklist .groups ∷ rest ∷ []) (worklistStart T) (candidateStart T) from to
     where
-      at : worklistStart T ≡ start ps 3
-      at = omega (arith, eleven, fits .truths)
+      from : worklistStart T ≡ length (flat (header e ∷ unused ∷ e .truths ∷ []))
+      from = simp length-append (omega (arith, two, fits .truths))
 
-  pub lend-missing-roots : (y z : List ℕ) → take (missingStart T) (written T ws e) ++ ((y ++ z) ++ drop (used T) (written T ws e))
-      ≡ written T ws (withFalseRoots (withSupport e (e .support) (withMembers (e .missing) y)) (withMembers (e .falseRoots) z))
-  unfolding written image start
-  lend-missing-roots y z = lend-two 6 (missingStart T) (used T) y z (omega arith) at (omega (arith, fits .missing, fits .falseRoots))
+      to : candidateStart T ≡ worklistStart T + length (flat (e .worklist .others .members ∷ e .support ∷ []))
+      to = simp length-append (omega (arith, fits .worklist, fits .support))
+
+  pub lend-missing-groups : (x y z : List ℕ) → take (missingStart T) (written T ws e) ++ (flat (x ∷ y ∷ z ∷ []) ++ drop (used T) (written T ws e))
+      ≡ written T ws (withWorklist (withFalseRoots (withSupport e (e .support) (withMembers (e .missing) x)) (withMembers (e .falseRoots) y)) (withGroups (e .worklist) z))
+  unfolding written image flat
+  lend-missing-groups x y z =
+      flat-between (header e ∷ unused ∷ e .truths ∷ e .worklist .others .members ∷ e .support ∷ e .candidate ∷ [])
+      (e .missing .members ∷ e .falseRoots .members ∷ e .worklist .groups ∷ []) (x ∷ y ∷ z ∷ []) (rest ∷ []) (missingStart T) (used T) from to
     where
-      at : missingStart T ≡ start ps 6
-      at = omega (arith, eleven, fits .truths, fits .worklist, fits .support, fits .candidate)
+      from : missingStart T ≡ length (flat (header e ∷ unused ∷ e .truths ∷ e .worklist .others .members ∷ e .support ∷ e .candidate ∷ []))
+      from = simp length-append (omega (arith, two, fits .truths, fits .worklist, fits .support, fits .candidate))
+
+      to : used T ≡ missingStart T + length (flat (e .missing .members ∷ e .falseRoots .members ∷ e .worklist .groups ∷ []))
+      to = simp length-append (omega (arith, fits .missing, fits .falseRoots, fits .groups))

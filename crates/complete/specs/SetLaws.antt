@@ -65,6 +65,7 @@ module _ (T : Tables) (e : Evaluation) where
         candidate = fits .candidate;
         missing = fits .missing;
         falseRoots = length-setOf (upTo isFalse p) (rootCount T);
+        groups = fits .groups;
       }
 
   failed-next : (p : ℕ) → p < rootCount T → (b : Bool) → truthAt e (rootAt T p) ≡ b → cond (truthAt e (rootAt T p)) (some (failed p)) (rootTurned T false p (failed p)) ≡ some (failed (suc p))
@@ -112,6 +113,7 @@ module _ (T : Tables) (e : Evaluation) where
         candidate = fits .candidate;
         missing = length-setOf (upTo (lacks e) a) (atomCount T);
         falseRoots = fits .falseRoots;
+        groups = fits .groups;
       }
 
   -- atom a lacks support

@@ -48,6 +48,7 @@ module _ (T : Tables) (e : Evaluation) where
         candidate = fits .candidate;
         missing = fits .missing;
         falseRoots = fits .falseRoots;
+        groups = fits .groups;
       }
 
   supplied-next : (p : ℕ) → headAt T p < atomCount T → (b : Bool) → bodyTrue (truthAt e) (bodyAt T p) ≡ b → withSupport (supplied p) (counted T p (supplied p)) (e .missing) ≡ supplied (suc p)

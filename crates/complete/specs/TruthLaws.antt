@@ -74,6 +74,7 @@ module _ (T : Tables) (e : Evaluation) where
           candidate = fits .candidate;
           missing = fits .missing;
           falseRoots = fits .falseRoots;
+          groups = fits .groups;
         }
 
     risen-below : (k o : ℕ) → o < k → truthAt (risen k) o ≡ truth T (present e) o

@@ -38,17 +38,17 @@ fn lay_halves(candidate: &[u64], part: &mut [u32])
     }
 }
 
-// Worklist, support, missing atoms and false roots without their counts.
+// Worklist but its first node, support, missing atoms and false roots, without their counts.
 fn empty(counts: Counts, kept: &mut [u32])
     requires { ⌜ Limited counts × (usedBy counts ≤ length (now kept)) ⌝ }
     ensures { λ _. ⌜ ((T : Tables) → now (kept .exit) ≡ written (sized counts T) (now (kept .entry)) (emptied (sized counts T) (ofWords (sized counts T) (now (kept .entry))))) ⌝ }
 {
     let n = counts.nodes;
     let a = counts.atoms;
-    let worklist = 16 + n;
+    let worklist = 8 + n;
     let candidate = worklist + (n + 31) / 32 + a;
     let missing = candidate + (a + 31) / 32;
-    let end = missing + (a + 31) / 32 + (counts.roots + 31) / 32;
+    let end = missing + (a + 31) / 32 + (counts.roots + 31) / 32 + (n + 31) / 32;
     words::clear(&mut kept[worklist..candidate]);
     words::clear(&mut kept[missing..end]);
 }
@@ -58,14 +58,14 @@ fn lay_candidate(counts: Counts, candidate: &[u64], kept: &mut [u32])
     ensures { λ _. ⌜ ((T : Tables) → now (kept .exit) ≡ written (sized counts T) (now (kept .entry)) (withHalves (sized counts T) (now (candidate .entry)) (ofWords (sized counts T) (now (kept .entry))))) ⌝ }
 {
     let n = counts.nodes;
-    let at = 16 + n + (n + 31) / 32 + counts.atoms;
+    let at = 8 + n + (n + 31) / 32 + counts.atoms;
     let end = at + (counts.atoms + 31) / 32;
     lay_halves(candidate, &mut kept[at..end]);
 }
 
-// A check is held; no missing atom, false root or node on the worklist is counted.
+// A check is held; no missing atom, false root or node on the worklist is counted, and the worklist has no first node.
 fn lay_header(counts: Counts, kept: &mut [u32])
-    requires { ⌜ usedBy counts ≤ length (now kept) ⌝ }
+    requires { ⌜ Limited counts × (usedBy counts ≤ length (now kept)) ⌝ }
     ensures { λ _. ⌜ ((T : Tables) → now (kept .exit) ≡ written (sized counts T) (now (kept .entry)) (opened (sized counts T) (ofWords (sized counts T) (now (kept .entry))))) ⌝ }
 {
     kept[0] = 1;
@@ -73,6 +73,7 @@ fn lay_header(counts: Counts, kept: &mut [u32])
     kept[2] = 0;
     kept[3] = 0;
     kept[4] = 0;
+    kept[5] = counts.nodes as u32;
 }
 
 // All but truth: the candidate, and nothing summarised.
@@ -87,16 +88,16 @@ fn reset(counts: Counts, candidate: &[u64], kept: &mut [u32])
 
 // Node k gets a truth that was read; false if none was.
 fn lay(kept: &mut [u32], k: usize, seen: Seen) -> bool
-    requires { ⌜ 16 + k < length (now kept) ⌝ }
+    requires { ⌜ 8 + k < length (now kept) ⌝ }
     ensures { λ r. ⌜ Stored (now (kept .entry)) k (seenOf seen) r (now (kept .exit)) ⌝ }
 {
     match seen {
         Seen::True => {
-            kept[16 + k] = 1;
+            kept[8 + k] = 1;
             true
         }
         Seen::False => {
-            kept[16 + k] = 0;
+            kept[8 + k] = 0;
             true
         }
         Seen::Stray => false,
@@ -147,7 +148,7 @@ fn lay_truths(counts: Counts, nodes: &[u32], operands: &[u32], kept: &mut [u32])
 
 // By its second word, a producer has no body or a true one.
 fn body_true(kept: &[u32], body: usize) -> bool
-    requires { ⌜ 16 + body ≤ length (now kept) ⌝ }
+    requires { ⌜ 8 + body ≤ length (now kept) ⌝ }
     ensures { λ r. ⌜ r ≡ bodyTrue (trueIn (now (kept .entry))) body ⌝ }
 {
     match body {
@@ -171,7 +172,7 @@ fn count_producer(counts: Counts, producers: &[u32], kept: &mut [u32], p: usize)
     }
     if body_true(kept, body) {
         let n = counts.nodes;
-        let at = 16 + n + (n + 31) / 32 + head;
+        let at = 8 + n + (n + 31) / 32 + head;
         kept[at] = kept[at] + 1;
     }
     true
@@ -198,7 +199,7 @@ fn lacking(counts: Counts, kept: &[u32], q: usize) -> u32
     ensures { λ r. ⌜ ((k : ℕ) → k < 32 → bit r k ≡ lacksIn counts (now (kept .entry)) (32 * q + k)) ⌝ }
 {
     let n = counts.nodes;
-    let support = 16 + n + (n + 31) / 32;
+    let support = 8 + n + (n + 31) / 32;
     let x = kept[support + counts.atoms + q];
     if x == 0 {
         return 0;
@@ -213,7 +214,7 @@ fn lacks(counts: Counts, kept: &[u32], a: usize) -> bool
     ensures { λ r. ⌜ r ≡ lacksIn counts (now (kept .entry)) a ⌝ }
 {
     let n = counts.nodes;
-    node_truth::present(counts, kept, a) && kept[16 + n + (n + 31) / 32 + a] == 0
+    node_truth::present(counts, kept, a) && kept[8 + n + (n + 31) / 32 + a] == 0
 }
 
 // The lowest atom from `from` on that is in the candidate and has no support, atom by atom.

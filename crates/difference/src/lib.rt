@@ -183,7 +183,7 @@ pub fn difference(counts: Counts, candidate: &[u64], kept: &[u32], marks: &mut [
     ensures { λ _. ⌜ Marked counts (now (kept .entry)) (now (candidate .entry)) (now (marks .exit)) ⌝ }
 {
     let n = counts.nodes;
-    let at = 16 + n + (n + 31) / 32 + counts.atoms;
+    let at = 8 + n + (n + 31) / 32 + counts.atoms;
     let words = (counts.atoms + 31) / 32;
     let pairs = words / 2;
     let whole = all_changes(candidate, kept, at, pairs, marks);

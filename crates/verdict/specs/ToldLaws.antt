@@ -14,7 +14,7 @@ use Rattle.words.specs.Next.{next}
 use Rattle.kept.specs.CountedSet as sets
 use Rattle.kept.specs.CountedSet.{CountedSet, lookup}
 use Rattle.kept.specs.Tables.{Tables}
-use Rattle.kept.specs.Layout.{ofWords, missingStart, falseRootsStart, used}
+use Rattle.kept.specs.Layout.{ofWords, missingStart, falseRootsStart, groupsStart, used}
 use Rattle.kept.specs.Verdict as verdicts
 use Rattle.kept.specs.Verdict.{judged, verdictOf}
 use Rattle.kept_laws.specs.Exits.{lookup-found, lookup-astray}
@@ -52,7 +52,7 @@ module _ (T : Tables) (ws : List ℕ) (long : used T ≤ length ws) (size : ℕ)
   abbrev lent : ℕ → ℕ → CountedSet
   lent a b = record { members = take (b - a) (drop a ws); size = size }
 
-  pub lent-falseRoots : size ≡ getD ws 3 0 → lent (falseRootsStart T) (used T) ≡ ofWords T ws .falseRoots
+  pub lent-falseRoots : size ≡ getD ws 3 0 → lent (falseRootsStart T) (groupsStart T) ≡ ofWords T ws .falseRoots
   lent-falseRoots e = rw (part-falseRoots T ws long, e ∙ get-falseRoots-size T ws)
 
   pub lent-missing : size ≡ getD ws 2 0 → lent (missingStart T) (falseRootsStart T) ≡ ofWords T ws .missing

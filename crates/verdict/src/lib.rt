@@ -49,7 +49,7 @@ fn first_false(counts: Counts, kept: &[u32]) -> Lookup
 {
     let n = counts.nodes;
     let a = counts.atoms;
-    let at = 16 + n + (n + 31) / 32 + a + (a + 31) / 32 + (a + 31) / 32;
+    let at = 8 + n + (n + 31) / 32 + a + (a + 31) / 32 + (a + 31) / 32;
     let end = at + (counts.roots + 31) / 32;
     lowest(&kept[at..end], words::word(kept, 3), counts.roots)
 }
@@ -60,7 +60,7 @@ fn first_missing(counts: Counts, kept: &[u32]) -> Lookup
 {
     let n = counts.nodes;
     let a = counts.atoms;
-    let at = 16 + n + (n + 31) / 32 + a + (a + 31) / 32;
+    let at = 8 + n + (n + 31) / 32 + a + (a + 31) / 32;
     let end = at + (a + 31) / 32;
     lowest(&kept[at..end], words::word(kept, 2), a)
 }

@@ -48,6 +48,14 @@ add-end-3 c = search needs
 add-end-4 : tie.Need-add-end-4
 add-end-4 c = search needs
 
+-- src/lib.rt:51:70
+add-end-5 : tie.Need-add-end-5
+add-end-5 c = search needs
+
+-- src/lib.rt:51:15
+add-end-6 : tie.Need-add-end-6
+add-end-6 c = search needs
+
 -- src/lib.rt:69:11
 mul-clear : tie.Need-mul-clear
 mul-clear c = search needs
@@ -110,6 +118,8 @@ empty-spec =
     add-end-2
     add-end-3
     add-end-4
+    add-end-5
+    add-end-6
     mul-clear
     sub-clear
     part-clear-start

@@ -28,13 +28,21 @@ slice-write-kept-4 c = simp length-set (omega arith)
 slice-write-kept-5 : tie.Need-slice-write-kept-5
 slice-write-kept-5 c = simp length-set (omega arith)
 
+-- src/lib.rt:76:15
+cast-kept : tie.Need-cast-kept
+cast-kept c = search needs
+
+-- src/lib.rt:76:5
+slice-write-kept-6 : tie.Need-slice-write-kept-6
+slice-write-kept-6 c = simp length-set (omega arith)
+
 -- src/lib.rt:84:1
 same-length : tie.Need-same-length
 same-length c = search needs
 
 -- src/lib.rt:84:1
 returns : tie.Need-returns
-returns c = λ T. header-laid (sized (c .args .counts) T) (c .args .kept .now) (c .pre)
+returns c = λ T. header-laid (sized (c .before .args .counts) T) (c .before .args .kept .now) (c .before .pre .1)
 
 pub lay-header-spec : {M : Type 1} → statement M
 lay-header-spec =
@@ -45,5 +53,7 @@ lay-header-spec =
     slice-write-kept-3
     slice-write-kept-4
     slice-write-kept-5
+    cast-kept
+    slice-write-kept-6
     same-length
     returns)
