@@ -1,6 +1,6 @@
-//! Links libtight.a, and lifts the Rust that the harness compares with.
+//! Links libtight.a and libtight_file.a, and lifts the Rust that the harness compares with.
 //!
-//! `TIGHT_LIB_DIR` names the folder of libtight.a (default ../target/staticlib), `TIGHT_RUST_SRC`
+//! `TIGHT_LIB_DIR` names their folder (default ../target/staticlib), `TIGHT_RUST_SRC`
 //! the folder of the Rust's files (default ../../shared/docs/src). Without the second the wrapper
 //! still builds; the harness then stops with a message.
 use std::path::{Path, PathBuf};
@@ -47,15 +47,17 @@ fn folder(variable: &str, default: &str) -> PathBuf {
 
 fn link() {
     let folder = folder("TIGHT_LIB_DIR", "../target/staticlib");
-    let library = folder.join("libtight.a");
-    println!("cargo:rerun-if-changed={}", library.display());
-    assert!(
-        library.is_file(),
-        "{} is missing: write it with `rt staticlib tight`, or name its folder in TIGHT_LIB_DIR",
-        library.display()
-    );
     println!("cargo:rustc-link-search=native={}", folder.display());
-    println!("cargo:rustc-link-lib=static=tight");
+    for name in ["tight", "tight_file"] {
+        let library = folder.join(format!("lib{name}.a"));
+        println!("cargo:rerun-if-changed={}", library.display());
+        assert!(
+            library.is_file(),
+            "{} is missing: write it with `rt staticlib {name}`, or name its folder in TIGHT_LIB_DIR",
+            library.display()
+        );
+        println!("cargo:rustc-link-lib=static={name}");
+    }
 }
 
 /// The text without its test modules, under the harness's module names.

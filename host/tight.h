@@ -1,4 +1,5 @@
-/* The tight check for C: link with libtight.a, which `rt staticlib tight` writes to target/staticlib.
+/* The tight check for C: link with libtight.a, and for tight_run with libtight_file.a; `rt staticlib tight` and
+   `rt staticlib tight_file` write them to target/staticlib.
    A slice is a pointer and its length in elements; no two slices of one call may overlap.
    Every call accepts every content and length, and writes nothing but what is named here. */
 #ifndef TIGHT_H

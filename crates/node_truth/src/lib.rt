@@ -188,6 +188,9 @@ pub fn span_truth(
     requires { ⌜ (size ≤ length (now operands)) × (start < 4294967296) × (count < 4294967296) × (8 + k ≤ length (now kept)) ⌝ }
     ensures { λ r. ⌜ seenOf r ≡ spanSeen size k (trueIn (now (kept .entry))) decisive (now (operands .entry)) start count ⌝ }
 {
+    // named again, so that the compiler hands them on by value
+    let operands = &operands[..];
+    let kept = &kept[..];
     if start + count > size {
         return Seen::Stray;
     }
@@ -230,6 +233,12 @@ pub fn node_truth(counts: Counts, nodes: &[u32], operands: &[u32], kept: &[u32],
     requires { ⌜ Limited counts × (k < counts .nodes) × (3 * counts .nodes ≤ length (now nodes)) × (counts .operands ≤ length (now operands)) × (usedBy counts ≤ length (now kept)) ⌝ }
     ensures { λ r. ⌜ seenOf r ≡ nodeSeen counts (now (operands .entry)) (presentIn counts (now (kept .entry))) (trueIn (now (kept .entry))) k (nodeAt (now (nodes .entry)) k) ⌝ }
 {
+    // the kind that is met most, by one comparison
+    if nodes[3 * k] == 2 {
+        let left = words::word(nodes, 3 * k + 1);
+        let right = words::word(nodes, 3 * k + 2);
+        return implies_truth(kept, k, left, right);
+    }
     match theory::view(nodes, k) {
         Node::Atom(a) => atom_truth(counts, kept, a),
         Node::False => Seen::False,

@@ -3,6 +3,7 @@
 use Prim.Native.Nat.{ℕ, _<_, _≤_, _+_, _-_, _*_, _/_, _%_, _^_}
 use native.Mathlib.Omega.{arith}
 use mathlib.Core.Path.{_≡_, refl, ap, sym, _∙_}
+use mathlib.Core.Logic.{⊎-elim}
 use mathlib.Core.Bool.{Bool, true, false, not, cond, _&&_}
 use mathlib.Core.List.{List}
 use mathlib.Core.Option.{Option, some, none}
@@ -12,6 +13,7 @@ use lib.Dec.{eqb, ltb}
 use lib.ListN.{length, getD, set, take, drop, length-set, length-drop}
 use lib.Seq.{getD-set-same, length-take-le}
 use borrow.Author.Tests.{eq-eqb, ne-eqb, lt-ltb, le-ltb}
+use Rattle.base.specs.Tests.{below-or}
 use Rattle.words.specs.BitLaws.{trailing-below, trailing-set}
 use Rattle.words.specs.Next.{next}
 use Rattle.words.specs.NextLaws.{next-hit}
@@ -123,7 +125,7 @@ module _ (T : Tables) (ws : List ℕ) (long : used T ≤ length ws) where
 
   -- ---- a node enters
 
-  pub queue-behind : (m : ℕ) (ok : Bool) (after : List ℕ) → getD ws 5 0 < m → Wrote T ws (waiting T m e) ok after → Wrote T ws (entered T m e) ok after
+  queue-behind : (m : ℕ) (ok : Bool) (after : List ℕ) → getD ws 5 0 < m → Wrote T ws (waiting T m e) ok after → Wrote T ws (entered T m e) ok after
   unfolding entered withNode waiting
   queue-behind m ok after l h = rw (lt-ltb (w .first) m (rw (get-first T ws) at l)) h
 
@@ -154,14 +156,14 @@ module _ (T : Tables) (ws : List ℕ) (long : used T ≤ length ws) where
         passed (behind (nodeCount T) w m) (cond (ltb (w .first) (nodeCount T)) (behind (nodeCount T) (withFirst w m) (w .first)) (some (withFirst w m)))
         ∙ ap (λ b. cond b (behind (nodeCount T) (withFirst w m) (w .first)) (some (withFirst w m))) (le-ltb (w .first) (nodeCount T) n)
 
-    pub queue-first : nodeCount T ≤ getD ws 5 0 → Wrote T ws (entered T m e) true (set ws 5 m)
+    queue-first : nodeCount T ≤ getD ws 5 0 → Wrote T ws (entered T m e) true (set ws 5 m)
     unfolding entered
     queue-first n =
         wrote-some T ws (entered T m e) (set ws 5 m) (withWorklist e (withFirst w m))
         (ap (λ x. andThen x (λ v. some (withWorklist e v))) (comes-first (rw (get-first T ws) at n)))
         (first-stored m)
 
-    pub queue-lower : (ok : Bool) (after : List ℕ) → getD ws 5 0 < nodeCount T
+    queue-lower : (ok : Bool) (after : List ℕ) → getD ws 5 0 < nodeCount T
         → Wrote T (set ws 5 m) (waiting T (getD ws 5 0) (ofWords T (set ws 5 m))) ok after → Wrote T ws (entered T m e) ok after
     unfolding entered withNode waiting
     queue-lower ok after n h =
@@ -171,6 +173,30 @@ module _ (T : Tables) (ws : List ℕ) (long : used T ≤ length ws) where
         let s : waiting T (getD ws 5 0) (ofWords T (set ws 5 m)) ≡ waiting T (w .first) d = rw (i, get-first T ws) in
         rw (passed (behind (nodeCount T) w m) (cond (ltb (w .first) (nodeCount T)) (behind (nodeCount T) (withFirst w m) (w .first)) (some (withFirst w m))), lt-ltb (w .first) (nodeCount T) (rw (get-first T ws) at n))
         (rw s at g)
+
+  -- as the code does both: the lower of m and the first is held, and the other goes on
+  module _ (m first other : ℕ) (mid : List ℕ) (is : first ≡ getD ws 5 0) (ne : m ≡ first → ⊥) (o : other ≡ cond (ltb m first) first m)
+      (s : mid ≡ cond (ltb m first) (set ws 5 m) ws) where
+    abbrev Went : Bool → List ℕ → Type 0
+    Went ok after = Wrote T ws (entered T m e) ok after
+
+    held-lower : m < first → (other ≡ getD ws 5 0) × (mid ≡ set ws 5 m)
+    held-lower l = (o ∙ rw (lt-ltb m first l) is, s ∙ rw (lt-ltb m first l))
+
+    held-other : first ≤ m → (other ≡ m) × (mid ≡ ws)
+    held-other l = (o ∙ rw (le-ltb m first l), s ∙ rw (le-ltb m first l))
+
+    pub queue-held : m < nodeCount T → nodeCount T ≤ other → Went true mid
+    queue-held b h = ⊎-elim
+        (λ l. let x = held-lower l in rw (x .1) (queue-first m (omega (arith, is)) (omega (arith, x .0))))
+        (λ l. let x = held-other l in absurd (omega (arith, x .0)))
+        (below-or m first)
+
+    pub queue-waits : (ok : Bool) (after : List ℕ) → other < nodeCount T → Wrote T mid (waiting T other (ofWords T mid)) ok after → Went ok after
+    queue-waits ok after b h = ⊎-elim
+        (λ l. let x = held-lower l in queue-lower m (omega (arith, is)) ok after (omega (arith, x .0)) (rw (x .0, x .1) at h))
+        (λ l. let x = held-other l in queue-behind m ok after (omega (arith, is, ne)) (rw (x .0, x .1) at h))
+        (below-or m first)
 
   -- ---- the first leaves
 

@@ -1,8 +1,9 @@
 // Changes of a kept evaluation in its lent words: `queue`, `presence`, `support` and `root` of tight/evaluate.rs. Each that can fail answers false where a count would leave its range.
 ghost use mathlib.Core.Path.{_≡_};
-ghost use mathlib.Core.Bool.{true, false};
+ghost use mathlib.Core.Bool.{true, false, cond};
 ghost use Prim.Native.Nat.{_+_, _*_, _/_, _<_, _≤_};
-ghost use lib.ListN.{length, getD};
+ghost use lib.Dec.{ltb};
+ghost use lib.ListN.{length, getD, set};
 ghost use Rattle.theory.specs.Limits.{Limited};
 ghost use Rattle.words.specs.Next.{next};
 ghost use Rattle.kept.specs.SetOf.{words32};
@@ -96,23 +97,32 @@ fn wait(counts: Counts, kept: &mut [u32], m: usize) -> bool
     true
 }
 
+// The lower of node m and the first comes first; answers the other one.
+fn hold(kept: &mut [u32], first: usize, m: usize) -> usize
+    requires { ⌜ (5 < length (now kept)) × (m < 4294967296) ⌝ }
+    ensures { λ r. ⌜ (r ≡ cond (ltb m first) first m) × (now (kept .exit) ≡ cond (ltb m first) (set (now (kept .entry)) 5 m) (now (kept .entry))) ⌝ }
+{
+    if m < first {
+        kept[5] = m as u32;
+        return first;
+    }
+    m
+}
+
 // Node m onto the worklist: the lower of it and the first comes first, the other waits behind.
 pub fn queue(counts: Counts, kept: &mut [u32], m: usize) -> bool
     requires { ⌜ Limited counts × (m < counts .nodes) × (usedBy counts ≤ length (now kept)) ⌝ }
     ensures { λ r. ⌜ ((T : Tables) → Wrote (sized counts T) (now (kept .entry)) (entered (sized counts T) m (ofWords (sized counts T) (now (kept .entry)))) r (now (kept .exit))) ⌝ }
 {
     let first = words::word(kept, 5);
-    if m > first {
-        return wait(counts, kept, m);
-    }
     if m == first {
         return true;
     }
-    kept[5] = m as u32;
-    if first >= counts.nodes {
+    let other = hold(kept, first, m);
+    if other >= counts.nodes {
         return true;
     }
-    wait(counts, kept, first)
+    wait(counts, kept, other)
 }
 
 // The first word from q on that has members by the groups.

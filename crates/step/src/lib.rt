@@ -177,11 +177,11 @@ pub fn step(
     ensures { λ r. ⌜ ((T : Tables) → Steps (walked counts made (now (nodes .entry)) (now (operands .entry)) (now (producers .entry)) (now (readers .entry)) T) (now (kept .entry)) (step (walked counts made (now (nodes .entry)) (now (operands .entry)) (now (producers .entry)) (now (readers .entry)) T) (ofWords (walked counts made (now (nodes .entry)) (now (operands .entry)) (now (producers .entry)) (now (readers .entry)) T) (now (kept .entry)))) r (now (kept .exit))) ⌝ }
 {
     let k = words::word(kept, 5);
-    if k > counts.nodes {
+    if k >= counts.nodes {
+        if k == counts.nodes {
+            return Taking::Idle;
+        }
         return Taking::Fault(0);
-    }
-    if k == counts.nodes {
-        return Taking::Idle;
     }
     let seen = node_truth::node_truth(counts, nodes, operands, kept, k);
     if let Seen::Stray = seen {

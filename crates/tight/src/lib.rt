@@ -8,7 +8,6 @@ ghost use Rattle.kept.specs.Outcome as checks;
 ghost use Rattle.update.specs.Results.{answerOf};
 ghost use Rattle.verdict.specs.Told.{verdictAs};
 ghost use Rattle.evaluate.specs.Checks.{tablesOf, candidateOf};
-ghost use Rattle.run.specs.Run.{running, runOf};
 ghost use Rattle.tight.specs.Numbers.{refusalNumbers, planNumbers, checkNumbers, countsOf, planOf, Leaves};
 use evaluate::Plan;
 use plan::Planning;
@@ -73,14 +72,6 @@ fn put_checked(answer: &mut [u64], checked: Checked)
         Checked::Accepted(v, n) => put_verdict(answer, v, n),
         Checked::Refused(r) => put_refusal(answer, r),
     }
-}
-
-// The run of a file.
-#[no_mangle]
-pub extern "C" fn tight_run(file: &[u8], out: &mut [u8]) -> usize
-    ensures { λ r. ⌜ running r (now (out .exit)) ≡ runOf (now (file .entry)) (now (out .entry)) ⌝ }
-{
-    run::run(file, out)
 }
 
 // The planner; buffers 4, 5, 6 and 8 come as `producers`, `ranks`, `readers` and `work`.

@@ -24,7 +24,7 @@ use Rattle.kept.specs.Tables.{Tables, atomCount, nodeCount}
 use Rattle.kept.specs.Evaluation.{Evaluation, present}
 use Rattle.kept.specs.Verdict.{verdictOf}
 use Rattle.kept.specs.Step.{Stepped, idle, took, fault, step}
-use Rattle.kept.specs.Start.{walkStart, lowestEntered}
+use Rattle.kept.specs.Start.{walkStart}
 use Rattle.kept.specs.Walk.{broken, walk, walkFrom, keptWalk}
 use Rattle.kept.specs.Check.{Result, concluded, keptResult}
 use Rattle.kept.specs.Layout.{ofWords, written, candidateStart, used}
@@ -32,15 +32,12 @@ use Rattle.kept.specs.LayoutLaws.{Fits, fits-of}
 use Rattle.kept_laws.specs.FitsLaws.{step-fits, start-fits}
 use Rattle.kept_laws.specs.WalkEnds.{step-next}
 use Rattle.kept_laws.specs.Turns.{resumed, resumed-none, walk-more, walk-done, walk-stop}
-use Rattle.kept_laws.specs.Written.{written-same, of-written, length-written, written-again, part-candidate, get-candidate}
-use Rattle.kept_laws.specs.Wrote.{Beside, beside-same, beside-then, beside-written}
+use Rattle.kept_laws.specs.Written.{written-same, of-written, length-written, written-again, part-candidate, get-candidate, get-first}
+use Rattle.kept_laws.specs.Wrote.{Wrote, wrote-true, wrote-false, Beside, beside-same, beside-then, beside-written}
 use Rattle.step.specs.Steps.{Steps}
 use Rattle.step.specs.declared.Taking.{Taking}
 use Rattle.step.specs.declared.Taking.the-variants.{Idle, Took, Fault}
 use Rattle.start.specs.KeptWithin.{kept-within}
-use Rattle.start.specs.Enters.{Enters}
-use Rattle.start.specs.declared.Entered.{Entered}
-use Rattle.start.specs.declared.Entered.the-variants.{Low, Stray}
 use Rattle.update.specs.declared.Checked.{Checked}
 use Rattle.update.specs.declared.Checked.the-variants.{Refused}
 use Rattle.update.specs.Results.{answerOf, answerIn, Results}
@@ -70,54 +67,63 @@ module _ (T : Tables) (ws : List ℕ) (r : Taking) (after : List ℕ) where
       let q : j ≡ k = cc in
       (ap fault q, h .1)
 
--- ---- the loop: n nodes are behind, the words are `now`, the nodes below i have been gone over
+-- ---- the loop: n nodes are behind, the words are `now`
 
-pub record Walking (T : Tables) (ws : List ℕ) (from n i : ℕ) (now : List ℕ) : Type 0 where
+pub record Walking (T : Tables) (ws : List ℕ) (n : ℕ) (now : List ℕ) : Type 0 where
   pub fits : Fits T (ofWords T now)
   pub put : now ≡ written T ws (ofWords T now)
-  pub left : resumed T 0 (walk T (suc (nodeCount T)) from (ofWords T ws)) ≡ resumed T n (walk T (suc (nodeCount T)) i (ofWords T now))
+  pub left : resumed T 0 (walk T (suc (nodeCount T)) (ofWords T ws)) ≡ resumed T n (walk T (suc (nodeCount T)) (ofWords T now))
 
-module _ (T : Tables) (ws : List ℕ) (long : used T ≤ length ws) (from : ℕ) where
+-- from words to words: a node was taken, and the first is above it then
+pub record Turned (T : Tables) (ws : List ℕ) (n : ℕ) (now after : List ℕ) : Type 0 where
+  pub walking : Walking T ws (n + 1) after
+  pub node : getD now 5 0 < nodeCount T
+  pub above : getD now 5 0 < getD after 5 0
+
+module _ (T : Tables) (ws : List ℕ) (long : used T ≤ length ws) where
   abbrev whole : Result
-  whole = resumed T 0 (walk T (suc (nodeCount T)) from (ofWords T ws))
+  whole = resumed T 0 (walk T (suc (nodeCount T)) (ofWords T ws))
 
-  pub walk-begins : Walking T ws from 0 from ws
+  pub walk-begins : Walking T ws 0 ws
   walk-begins = record { fits = fits-of T ws long; put = sym (written-same T ws long); left = refl }
 
-  module _ (n i : ℕ) (now : List ℕ) (w : Walking T ws from n i now) (r : Taking) (after : List ℕ) (h : Steps T now (step T i (ofWords T now)) r after) where
+  module _ (n : ℕ) (now : List ℕ) (w : Walking T ws n now) (r : Taking) (after : List ℕ) (h : Steps T now (step T (ofWords T now)) r after) where
     mid-long : used T ≤ length now
     mid-long = rw (ap length (w .put) ∙ length-written T ws long (ofWords T now) (w .fits)) long
 
     -- a node was taken
-    pub walk-turns : (k : ℕ) → i ≤ nodeCount T → r ≡ Took k → Walking T ws from (n + 1) (k + 1) after × (i ≤ k) × (k < nodeCount T)
-    walk-turns k l e =
-        let s = stepped-took T now r after (step T i (ofWords T now)) k h e in
-        let g : Fits T (s .0) = step-fits T i (ofWords T now) k (s .0) (s .1) (w .fits) in
+    pub walk-turns : (k : ℕ) → r ≡ Took k → Turned T ws n now after
+    walk-turns k e =
+        let s = stepped-took T now r after (step T (ofWords T now)) k h e in
+        let g : Fits T (s .0) = step-fits T (ofWords T now) k (s .0) (s .1) (w .fits) in
         let holds : ofWords T after ≡ s .0 = ap (ofWords T) (s .2) ∙ of-written T now mid-long (s .0) g in
-        let b = step-next T i k (ofWords T now) (s .0) (s .1) in (
-          record {
+        let b = step-next T k (ofWords T now) (s .0) (s .1) in
+        let old : getD now 5 0 ≡ k = get-first T now ∙ b .0 in
+        let new : getD after 5 0 ≡ s .0 .worklist .first = get-first T after ∙ ap (λ y. y .worklist .first) holds in
+        record {
+          walking = record {
             fits = rw holds g;
             put = s .2 ∙ ap (λ y. written T y (s .0)) (w .put) ∙ written-again T ws long (ofWords T now) (w .fits) (s .0) ∙ ap (written T ws) (sym holds);
-            left = w .left ∙ walk-more T n i k (ofWords T now) (s .0) l (s .1) ∙ ap (λ y. resumed T (n + 1) (walk T (suc (nodeCount T)) (k + 1) y)) (sym holds);
-          },
-          b .0,
-          b .1,
-        )
+            left = w .left ∙ walk-more T n k (ofWords T now) (s .0) (s .1) ∙ ap (λ y. resumed T (n + 1) (walk T (suc (nodeCount T)) y)) (sym holds);
+          };
+          node = omega (arith, old, b .1);
+          above = omega (arith, old, new, b .2);
+        }
 
     -- the worklist is empty
     pub walk-stands : r ≡ Idle → (c : Checked) → answerOf c ≡ answerIn (concluded (verdictOf T (ofWords T after)) n (ofWords T after)) → Results T ws whole c after
     walk-stands e c a =
-        let s = stepped-idle T now r after (step T i (ofWords T now)) h e in
+        let s = stepped-idle T now r after (step T (ofWords T now)) h e in
         concluded-results T ws whole (verdictOf T (ofWords T now)) n (ofWords T now) c after long (w .fits)
-        (w .left ∙ walk-done T n i (ofWords T now) (s .0))
+        (w .left ∙ walk-done T n (ofWords T now) (s .0))
         (a ∙ ap (λ y. answerIn (concluded (verdictOf T (ofWords T y)) n (ofWords T y))) (s .1))
         (s .1 ∙ w .put)
 
     -- 17
     pub walk-breaks : (k : ℕ) → r ≡ Fault k → Results T ws whole (Refused (BadEntry k)) after
     walk-breaks k e =
-        let s = stepped-fault T now r after (step T i (ofWords T now)) k h e in
-        refused-results T ws whole (BadEntry k) after (w .left ∙ walk-stop T n i k (ofWords T now) (s .0))
+        let s = stepped-fault T now r after (step T (ofWords T now)) k h e in
+        refused-results T ws whole (BadEntry k) after (w .left ∙ walk-stop T n k (ofWords T now) (s .0))
         (beside-then T ws now after (rw (w .put) (beside-written T ws (ofWords T now) long (w .fits))) (s .1))
 
 -- ---- before it
@@ -172,41 +178,22 @@ module _ (T : Tables) (J : Interpretation) (ws : List ℕ) (long : used T ≤ le
   unfolding keptWalk keptResult
   update-stray h = refused-results T ws result (BadEntry 0) ws (rw h) (beside-same T ws)
 
-  module _ (h : stray ≡ false) (r : Entered) (mid : List ℕ) where
-    entered-stray : (o : Option Evaluation) (low : ℕ) → Enters T ws o low r mid → r ≡ Stray → (o ≡ none) × Beside T ws mid
-    entered-stray none low w p = (refl, w .1)
-    entered-stray (some d) low w p = let q : Low low ≡ Stray = sym (w .0) ∙ p in let z : _≡_ {A = ℕ} 0 1 = cc in absurd (omega arith)
-
-    entered-low : (o : Option Evaluation) (low from : ℕ) → Enters T ws o low r mid → r ≡ Low from → (d : Evaluation) × (o ≡ some d) × (low ≡ from) × (mid ≡ written T ws d)
-    entered-low none low from w p = let q : Stray ≡ Low from = sym (w .0) ∙ p in let z : _≡_ {A = ℕ} 0 1 = cc in absurd (omega arith)
-    entered-low (some d) low from w p =
-        let q : Low low ≡ Low from = sym (w .0) ∙ p in
-        let s : low ≡ from = cc in
-        (d, refl, s, w .1)
-
-    pub update-fault : Enters T ws (walkStart T J (atomCount T) e) (lowestEntered T J e) r mid → r ≡ Stray → Results T ws result (Refused (BadEntry 0)) mid
+  module _ (h : stray ≡ false) (r : Bool) (mid : List ℕ) (w : Wrote T ws (walkStart T J (atomCount T) e) r mid) where
+    pub update-fault : r ≡ false → Results T ws result (Refused (BadEntry 0)) mid
     unfolding keptWalk keptResult
-    update-fault w p =
-        let s = entered-stray (walkStart T J (atomCount T) e) (lowestEntered T J e) w p in
+    update-fault p =
+        let s = wrote-false T ws (walkStart T J (atomCount T) e) mid r w p in
         refused-results T ws result (BadEntry 0) mid (rw (h, s .0)) (s .1)
 
-    pub update-walk : (from : ℕ) → Enters T ws (walkStart T J (atomCount T) e) (lowestEntered T J e) r mid → r ≡ Low from → (c : Checked) (after : List ℕ)
-        → Results T mid (resumed T 0 (walk T (suc (nodeCount T)) from (ofWords T mid))) c after → Results T ws result c after
+    pub update-walk : r ≡ true → (c : Checked) (after : List ℕ) → Results T mid (resumed T 0 (walk T (suc (nodeCount T)) (ofWords T mid))) c after → Results T ws result c after
     unfolding keptWalk
-    update-walk from w p c after x =
-        let s = entered-low (walkStart T J (atomCount T) e) (lowestEntered T J e) from w p in
+    update-walk p c after x =
+        let s = wrote-true T ws (walkStart T J (atomCount T) e) mid r w p in
         let f : Fits T (s .0) = start-fits T J (atomCount T) e (s .0) (s .1) (fits-of T ws long) in
-        let holds : ofWords T mid ≡ s .0 = ap (ofWords T) (s .3) ∙ of-written T ws long (s .0) f in
-        results-by T ws result (resumed T 0 (walk T (suc (nodeCount T)) from (ofWords T mid))) c after
-        (ap (λ b. keptResult T (cond b (broken 0) (walkFrom T (lowestEntered T J e) (walkStart T J (atomCount T) e)))) h
-        ∙ ap (λ o. keptResult T (walkFrom T (lowestEntered T J e) o)) (s .1)
-        ∙ resumed-none T (walk T (suc (nodeCount T)) (lowestEntered T J e) (s .0))
-        ∙ ap (λ j. resumed T 0 (walk T (suc (nodeCount T)) j (s .0))) (s .2)
-        ∙ ap (λ y. resumed T 0 (walk T (suc (nodeCount T)) from y)) (sym holds))
-        (results-then T ws mid (s .0) long f (s .3) (resumed T 0 (walk T (suc (nodeCount T)) from (ofWords T mid))) c after x)
-
-    -- how long the words are, and where the walk begins
-    pub update-low : (from : ℕ) → Enters T ws (walkStart T J (atomCount T) e) (lowestEntered T J e) r mid → r ≡ Low from → (length mid ≡ length ws) × (lowestEntered T J e ≡ from)
-    update-low from w p =
-        let s = entered-low (walkStart T J (atomCount T) e) (lowestEntered T J e) from w p in
-        (ap length (s .3) ∙ length-written T ws long (s .0) (start-fits T J (atomCount T) e (s .0) (s .1) (fits-of T ws long)), s .2)
+        let holds : ofWords T mid ≡ s .0 = ap (ofWords T) (s .2) ∙ of-written T ws long (s .0) f in
+        results-by T ws result (resumed T 0 (walk T (suc (nodeCount T)) (ofWords T mid))) c after
+        (ap (λ b. keptResult T (cond b (broken 0) (walkFrom T (walkStart T J (atomCount T) e)))) h
+        ∙ ap (λ o. keptResult T (walkFrom T o)) (s .1)
+        ∙ resumed-none T (walk T (suc (nodeCount T)) (s .0))
+        ∙ ap (λ y. resumed T 0 (walk T (suc (nodeCount T)) y)) (sym holds))
+        (results-then T ws mid (s .0) long f (s .2) (resumed T 0 (walk T (suc (nodeCount T)) (ofWords T mid))) c after x)

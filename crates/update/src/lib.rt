@@ -19,7 +19,6 @@ ghost use Rattle.difference.specs.Marks.{Marked};
 ghost use Rattle.step.specs.Steps.{Lent};
 ghost use Rattle.verdict.specs.Told.{judgedOf};
 ghost use Rattle.update.specs.Results.{lent, answerOf, answerIn, Results};
-use start::Entered;
 use step::Taking;
 use theory::Counts;
 use theory::Refusal;
@@ -42,7 +41,7 @@ pub fn told(judged: Judged, n: usize) -> Checked
     }
 }
 
-// Steps until the worklist is empty, from node `from` on, then the verdict.
+// Steps until the worklist is empty, then the verdict.
 fn walk(
     counts: Counts,
     made: usize,
@@ -52,21 +51,18 @@ fn walk(
     producers: &[u32],
     readers: &[u64],
     kept: &mut [u32],
-    from: usize,
 ) -> Checked
-    requires { ⌜ Lent counts made (length (now nodes)) (length (now operands)) (length (now producers)) (length (now readers)) (length (now kept)) × (counts .roots ≤ length (now roots)) × (from ≤ counts .nodes) ⌝ }
-    ensures { λ r. ⌜ ((T : Tables) → Results (lent counts made (now (nodes .entry)) (now (operands .entry)) (now (roots .entry)) (now (producers .entry)) (now (readers .entry)) T) (now (kept .entry)) (resumed (lent counts made (now (nodes .entry)) (now (operands .entry)) (now (roots .entry)) (now (producers .entry)) (now (readers .entry)) T) 0 (walk (lent counts made (now (nodes .entry)) (now (operands .entry)) (now (roots .entry)) (now (producers .entry)) (now (readers .entry)) T) (suc (counts .nodes)) from (ofWords (lent counts made (now (nodes .entry)) (now (operands .entry)) (now (roots .entry)) (now (producers .entry)) (now (readers .entry)) T) (now (kept .entry))))) r (now (kept .exit))) ⌝ }
+    requires { ⌜ Lent counts made (length (now nodes)) (length (now operands)) (length (now producers)) (length (now readers)) (length (now kept)) × (counts .roots ≤ length (now roots)) ⌝ }
+    ensures { λ r. ⌜ ((T : Tables) → Results (lent counts made (now (nodes .entry)) (now (operands .entry)) (now (roots .entry)) (now (producers .entry)) (now (readers .entry)) T) (now (kept .entry)) (resumed (lent counts made (now (nodes .entry)) (now (operands .entry)) (now (roots .entry)) (now (producers .entry)) (now (readers .entry)) T) 0 (walk (lent counts made (now (nodes .entry)) (now (operands .entry)) (now (roots .entry)) (now (producers .entry)) (now (readers .entry)) T) (suc (counts .nodes)) (ofWords (lent counts made (now (nodes .entry)) (now (operands .entry)) (now (roots .entry)) (now (producers .entry)) (now (readers .entry)) T) (now (kept .entry))))) r (now (kept .exit))) ⌝ }
 {
     let mut n = 0;
-    let mut i = from;
     loop {
-        match step::step(counts, made, nodes, operands, producers, readers, kept, i) {
+        match step::step(counts, made, nodes, operands, producers, readers, kept) {
             Taking::Idle => {
                 return told(verdict::judge(counts, roots, kept), n);
             }
-            Taking::Took(k) => {
+            Taking::Took(_) => {
                 n += 1;
-                i = k + 1;
             }
             Taking::Fault(place) => {
                 return Checked::Refused(Refusal::BadEntry(place));
@@ -85,7 +81,7 @@ fn stray_member(counts: Counts, kept: &[u32]) -> bool
     if a % 32 == 0 {
         return false;
     }
-    let at = 16 + n + (n + 31) / 32 + a + a / 32;
+    let at = 8 + n + (n + 31) / 32 + a + a / 32;
     kept[at] >> (a % 32) != 0
 }
 
@@ -108,18 +104,17 @@ pub fn update(
     if stray_member(counts, kept) {
         return Checked::Refused(Refusal::BadEntry(0));
     }
-    match start::start(counts, candidate, readers, kept, marks) {
-        Entered::Stray => Checked::Refused(Refusal::BadEntry(0)),
-        Entered::Low(from) => walk(
-            counts,
-            made,
-            nodes,
-            operands,
-            roots,
-            producers,
-            readers,
-            kept,
-            from,
-        ),
+    if !start::start(counts, candidate, readers, kept, marks) {
+        return Checked::Refused(Refusal::BadEntry(0));
     }
+    walk(
+        counts,
+        made,
+        nodes,
+        operands,
+        roots,
+        producers,
+        readers,
+        kept,
+    )
 }

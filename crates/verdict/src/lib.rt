@@ -39,7 +39,7 @@ fn lowest(words: &[u32], size: usize, n: usize) -> Lookup
     if size == 0 {
         return Lookup::Empty;
     }
-    let i = words::set32::next(words, 0);
+    let i = words::set32::next_word(words, 0);
     if i < n { Lookup::At(i) } else { Lookup::Astray }
 }
 

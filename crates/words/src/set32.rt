@@ -68,7 +68,7 @@ pub fn next(words: &[u32], from: usize) -> usize
 
 // The same from the start of word `first` on. What stands near is found word by word, by loads as wide as the stores just made there;
 // what stands farther, block by block.
-fn next_word(words: &[u32], first: usize) -> usize
+pub fn next_word(words: &[u32], first: usize) -> usize
     requires { ⌜ first ≤ length (now words) ⌝ }
     requires { ⌜ 32 * length (now words) < 2 ^ 64 ⌝ }
     ensures { λ r. ⌜ r ≡ next 32 (now (words .entry)) (32 * first) ⌝ }

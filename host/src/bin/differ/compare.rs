@@ -362,7 +362,7 @@ fn compare_kept(counts: Counts, kept: &[u32], checker: &rust::Checker<'_>) -> Co
     let Some(view) = checker.kept() else {
         return differ("kept evaluation (Rust)", "the Rust keeps none");
     };
-    let mut rest = &kept[16..];
+    let mut rest = &kept[8..];
     let mut part = |length: usize| {
         let (part, behind) = rest.split_at(length);
         rest = behind;
@@ -374,11 +374,15 @@ fn compare_kept(counts: Counts, kept: &[u32], checker: &rust::Checker<'_>) -> Co
     let candidate = part(counts.atoms.div_ceil(32));
     let missing = part(counts.atoms.div_ceil(32));
     let false_roots = part(counts.roots.div_ceil(32));
+    let groups = part(counts.nodes.div_ceil(32));
     let rust_truths: Vec<u32> = view.truths.iter().map(|&truth| truth.into()).collect();
     agree("kept truths", "Rust", &truths, &rust_truths)?;
-    let pending = kept[4] as usize
+    let first = usize::from(kept[5] as usize != counts.nodes);
+    let pending = first
+        + kept[4] as usize
         + worklist
             .iter()
+            .chain(&groups)
             .map(|word| word.count_ones() as usize)
             .sum::<usize>();
     agree("worklist", "Rust", &pending, &view.pending)?;

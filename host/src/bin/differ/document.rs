@@ -265,8 +265,10 @@ impl Evaluation {
             STAMP,
             self.missing.len() as u32,
             self.false_roots.len() as u32,
+            0,
+            counts.nodes as u32,
         ];
-        words.resize(16, 0);
+        words.resize(8, 0);
         words.extend(self.truths.iter().map(|&truth| u32::from(truth)));
         words.resize(words.len() + counts.nodes.div_ceil(32), 0);
         words.extend(&self.support);

@@ -147,7 +147,7 @@ impl Subject for Fault {
             }
             Fault::Count if answer[0] == 0 && was_kept => answer[3] += 1,
             Fault::Support if answer[0] == 0 && was_kept => {
-                kept[16 + counts.nodes + counts.nodes.div_ceil(32)] += 1;
+                kept[8 + counts.nodes + counts.nodes.div_ceil(32)] += 1;
             }
             Fault::Forgets if answer[0] != 0 => kept[0] = 0,
             _ => {}
