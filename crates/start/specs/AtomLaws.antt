@@ -16,16 +16,13 @@ use Rattle.kept.specs.CountedSet.{andThen, CountedSet, withBit, withMember}
 use Rattle.kept.specs.Tables.{Tables, atomCount, nodeCount, between, listAt, atomNodesAt}
 use Rattle.kept.specs.Evaluation.{Evaluation}
 use Rattle.kept.specs.Parts.{withCandidate}
-use Rattle.kept.specs.Start.{allEntered, atomTurned, least, orNone}
+use Rattle.kept.specs.Start.{allEntered, atomTurned}
 use Rattle.kept.specs.Layout.{ofWords, used}
 use Rattle.kept.specs.LayoutLaws.{Fits, fits-of}
 use Rattle.kept_laws.specs.FitsLaws.{length-members, candidate-fits}
 use Rattle.kept_laws.specs.OptionLaws.{some-is, then-some}
 use Rattle.kept_laws.specs.Wrote.{Wrote, wrote-true, wrote-false, beside-same}
 use Rattle.retained.specs.Changes.{presenceTurned}
-use Rattle.start.specs.declared.Entered.{Entered}
-use Rattle.start.specs.declared.Entered.the-variants.{Stray}
-use Rattle.start.specs.Enters.{Enters}
 use Rattle.start.specs.Onward.{Onward, onward-first, onward-stray, onward-then, onward-more}
 
 module _ (T : Tables) (a : ℕ) where
@@ -59,40 +56,37 @@ module _ (T : Tables) (a : ℕ) where
       rw (some-is (withCandidate e (withBit (e .candidate) a x) (p .0)) d (p .2)) at
       (candidate-fits T e a x (p .0) (length-members (atomCount T) (e .missing) a (x && eqb (getD (e .support) a 0) 0) (p .0) (p .1)) f)
 
-  module _ (J : Interpretation) (x : Bool) (same : J a ≡ x) (ws : List ℕ) (room : used T ≤ length ws) (low : ℕ)
+  module _ (J : Interpretation) (x : Bool) (same : J a ≡ x) (ws : List ℕ) (room : used T ≤ length ws)
       (ok : Bool) (mid : List ℕ) (q : Wrote T ws (presenceTurned T a x (ofWords T ws)) ok mid) where
     abbrev whole : Option Evaluation
     whole = atomTurned T J a (ofWords T ws)
 
-    abbrev lowest : ℕ
-    lowest = least low (orNone (atomNodesAt T a))
-
     abbrev rest : Evaluation → Option Evaluation
     rest d = andThen (atomNodesAt T a) (allEntered T d)
 
-    first : Onward T ws whole lowest ws whole lowest
-    first = onward-first T ws whole lowest room whole lowest refl refl
+    first : Onward T ws whole ws whole
+    first = onward-first T ws whole room whole refl
 
     -- it would leave the range of missing atoms
-    pub turn-none : ok ≡ false → Enters T ws whole lowest Stray mid
+    pub turn-none : ok ≡ false → Wrote T ws whole false mid
     turn-none e =
         let f = wrote-false T ws (presenceTurned T a x (ofWords T ws)) mid ok q e in
-        onward-stray T ws whole lowest room ws whole lowest first mid Stray (turned-twice J x (ofWords T ws) same ∙ ap (λ o. andThen o rest) (f .0)) (f .1) refl
+        onward-stray T ws whole room ws whole first mid (turned-twice J x (ofWords T ws) same ∙ ap (λ o. andThen o rest) (f .0)) (f .1)
 
     module _ (e : ok ≡ true) where
-      then-nodes : Onward T ws whole lowest mid (rest (ofWords T mid)) lowest
+      then-nodes : Onward T ws whole mid (rest (ofWords T mid))
       then-nodes =
           let f = wrote-true T ws (presenceTurned T a x (ofWords T ws)) mid ok q e in
-          onward-more T ws whole lowest room ws whole lowest first (presenceTurned T a x (ofWords T ws)) rest (f .0) mid lowest
-          (turned-twice J x (ofWords T ws) same) (f .1) (presence-fits x (ofWords T ws) (f .0) (f .1) (fits-of T ws room)) (f .2) refl
+          onward-more T ws whole room ws whole first (presenceTurned T a x (ofWords T ws)) rest (f .0) mid
+          (turned-twice J x (ofWords T ws) same) (f .1) (presence-fits x (ofWords T ws) (f .0) (f .1) (fits-of T ws room)) (f .2)
 
       -- its list is out of order
-      pub turn-disordered : inOrder (T .readers) (readerWords (T .counts)) slot ≡ false → Enters T ws whole lowest Stray mid
+      pub turn-disordered : inOrder (T .readers) (readerWords (T .counts)) slot ≡ false → Wrote T ws whole false mid
       turn-disordered s =
-          onward-stray T ws whole lowest room mid (rest (ofWords T mid)) lowest then-nodes mid Stray (ap (λ o. andThen o (allEntered T (ofWords T mid))) (nodes-none s)) (beside-same T mid) refl
+          onward-stray T ws whole room mid (rest (ofWords T mid)) then-nodes mid (ap (λ o. andThen o (allEntered T (ofWords T mid))) (nodes-none s)) (beside-same T mid)
 
-      pub turn-done : inOrder (T .readers) (readerWords (T .counts)) slot ≡ true → (list : List ℕ) → list ≡ laying.listAt (T .readers) slot → (r : Entered) (after : List ℕ)
-          → Enters T mid (allEntered T (ofWords T mid) list) (least low list) r after → Enters T ws whole lowest r after
+      pub turn-done : inOrder (T .readers) (readerWords (T .counts)) slot ≡ true → (list : List ℕ) → list ≡ laying.listAt (T .readers) slot → (r : Bool) (after : List ℕ)
+          → Wrote T mid (allEntered T (ofWords T mid) list) r after → Wrote T ws whole r after
       turn-done s list p r after h =
           let there : atomNodesAt T a ≡ some list = nodes-there s ∙ ap some (sym p) in
-          onward-then T ws whole lowest room mid (rest (ofWords T mid)) lowest then-nodes r after (rw there h)
+          onward-then T ws whole room mid (rest (ofWords T mid)) then-nodes r after (rw there h)

@@ -1,4 +1,3 @@
-pub mod Enters
 pub mod Onward
 pub mod EnterLaws
 pub mod AtomLaws

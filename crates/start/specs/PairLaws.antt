@@ -19,13 +19,11 @@ use Rattle.words.specs.Sets.{member}
 use Rattle.kept.specs.SetOf.{words32}
 use Rattle.kept.specs.Tables.{Tables, atomCount}
 use Rattle.kept.specs.Evaluation.{present}
-use Rattle.kept.specs.Start.{leastNode}
 use Rattle.kept.specs.Layout.{ofWords, used, candidateStart}
 use Rattle.kept_laws.specs.Halves.{digit-low, places-shift}
 use Rattle.kept_laws.specs.StartChanged.{allTurned}
 use Rattle.kept_laws.specs.Written.{get-candidate}
-use Rattle.start.specs.declared.Entered.{Entered}
-use Rattle.start.specs.Enters.{Enters}
+use Rattle.kept_laws.specs.Wrote.{Wrote}
 use Rattle.start.specs.WordLaws.{wordAtoms}
 
 -- a place of word i in a set
@@ -95,7 +93,7 @@ module _ (T : Tables) (ws : List ℕ) (room : used T ≤ length ws) where
           digit : (k : ℕ) → k < 64 → differ (j * 64 + k) ≡ bit (bitXor (low + high * 4294967296) new) k
           digit k b = ap (unlike (present (ofWords T ws) (j * 64 + k))) (same k b) ∙ pair-differs k b
 
-      pub pair-enters : (J : Interpretation) → ((k : ℕ) → k < 64 → J (j * 64 + k) ≡ bit new k) → (less : ℕ) (r : Entered) (after : List ℕ)
-          → Enters T ws (allTurned T J (wordAtoms 64 j (bitXor (low + high * 4294967296) new)) (ofWords T ws)) (leastNode T less (wordAtoms 64 j (bitXor (low + high * 4294967296) new))) r after
-          → Enters T ws (allTurned T J (places (λ a. unlike (present (ofWords T ws) a) (J a)) (j * 64) 64) (ofWords T ws)) (leastNode T less (places (λ a. unlike (present (ofWords T ws) a) (J a)) (j * 64) 64)) r after
-      pair-enters J same less r after h = rw (pair-atoms J same) h
+      pub pair-enters : (J : Interpretation) → ((k : ℕ) → k < 64 → J (j * 64 + k) ≡ bit new k) → (r : Bool) (after : List ℕ)
+          → Wrote T ws (allTurned T J (wordAtoms 64 j (bitXor (low + high * 4294967296) new)) (ofWords T ws)) r after
+          → Wrote T ws (allTurned T J (places (λ a. unlike (present (ofWords T ws) a) (J a)) (j * 64) 64) (ofWords T ws)) r after
+      pair-enters J same r after h = rw (pair-atoms J same) h

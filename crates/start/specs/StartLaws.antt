@@ -23,23 +23,21 @@ use Rattle.kept.specs.Tabulate.{tabulate-at}
 use Rattle.kept.specs.SetOf.{words32, setOf}
 use Rattle.kept.specs.SetOfLaws.{member-below, member-above}
 use Rattle.kept.specs.CountedSet.{andThen}
-use Rattle.kept.specs.Tables.{Tables, atomCount, nodeCount}
+use Rattle.kept.specs.Tables.{Tables, atomCount}
 use Rattle.kept.specs.Evaluation.{Evaluation, present}
-use Rattle.kept.specs.Start.{atomTurned, walkStart, leastNode, lowestEntered}
+use Rattle.kept.specs.Start.{atomTurned, walkStart}
 use Rattle.kept.specs.Layout.{ofWords, used, candidateStart}
 use Rattle.kept.specs.LayoutLaws.{Fits, fits-of}
 use Rattle.kept_laws.specs.FitsLaws.{atom-fits}
 use Rattle.kept_laws.specs.OptionLaws.{some-is, then-some}
 use Rattle.kept_laws.specs.Halves.{half, halves, word-places}
-use Rattle.kept_laws.specs.StartChanged.{allTurned, start-changed, turned-present, least-node-more}
+use Rattle.kept_laws.specs.StartChanged.{allTurned, start-changed, turned-present}
 use Rattle.kept_laws.specs.Written.{get-candidate, of-written}
 use Rattle.difference.specs.Marks.{Upto}
-use Rattle.start.specs.declared.Entered.{Entered}
-use Rattle.start.specs.declared.Entered.the-variants.{Low, Stray}
-use Rattle.start.specs.Enters.{Enters}
-use Rattle.start.specs.WordLaws.{wordAtoms, turned-none, lowest-none}
+use Rattle.kept_laws.specs.Wrote.{Wrote, wrote-true, wrote-false}
+use Rattle.start.specs.WordLaws.{wordAtoms, turned-none}
 use Rattle.start.specs.PairLaws.{place-member, kept-place}
-use Rattle.start.specs.Onward.{enters-low, enters-stray, Onward, onward-first, onward-room, onward-stray, onward-done, onward-then, onward-more}
+use Rattle.start.specs.Onward.{Onward, onward-first, onward-room, onward-stray, onward-done, onward-then, onward-more}
 
 -- ---- atoms turned one after the other
 
@@ -53,11 +51,6 @@ module _ (T : Tables) (J : Interpretation) where
           → andThen o (allTurned T J (xs ++ ys)) ≡ andThen (andThen o (allTurned T J xs)) (allTurned T J ys)
       go none ih = refl
       go (some d) ih = ih d
-
-  lowest-append : (n : ℕ) (xs ys : List ℕ) → leastNode T n (xs ++ ys) ≡ leastNode T (leastNode T n xs) ys
-  unfolding leastNode
-  lowest-append n [] ys = refl
-  lowest-append n (a ∷ xs) ys = least-node-more T n a (xs ++ ys) ∙ lowest-append _ xs ys ∙ ap (λ m. leastNode T m ys) (sym (least-node-more T n a xs))
 
   turned-fits : (xs : List ℕ) (e d : Evaluation) → allTurned T J xs e ≡ some d → Fits T e → Fits T d
   unfolding allTurned
@@ -113,12 +106,9 @@ module _ (T : Tables) (new : List ℕ) (ws : List ℕ) where
   abbrev whole : Option Evaluation
   whole = walkStart T J (atomCount T) e
 
-  abbrev lowest : ℕ
-  lowest = lowestEntered T J e
-
   -- these are left, and are in the candidate as they were
-  pub record Starting (mid : List ℕ) (less i : ℕ) : Type 0 where
-    pub onward : Onward T ws whole lowest mid (allTurned T J (later i) (ofWords T mid)) (leastNode T less (later i))
+  pub record Starting (mid : List ℕ) (i : ℕ) : Type 0 where
+    pub onward : Onward T ws whole mid (allTurned T J (later i) (ofWords T mid))
     pub same : (j : ℕ) → i * 32 ≤ j → present (ofWords T mid) j ≡ present e j
 
   module _ (room : used T ≤ length ws) (wn : Within (atomCount T) (member 64 new)) (wk : Within (atomCount T) (present e)) where
@@ -146,12 +136,11 @@ module _ (T : Tables) (new : List ℕ) (ws : List ℕ) where
     unfolding later places
     none-later = let left : (words32 (atomCount T) - words32 (atomCount T)) * 32 ≡ 0 = omega arith in rw left
 
-    pub starting-first : Starting ws (nodeCount T) 0
-    unfolding lowestEntered
+    pub starting-first : Starting ws 0
     starting-first =
         record {
-          onward = onward-first T ws whole lowest room (allTurned T J (later 0) e) (leastNode T (nodeCount T) (later 0))
-              (ap (λ xs. allTurned T J xs e) all-later ∙ sym (start-changed T J e (fits-of T ws room))) (ap (leastNode T (nodeCount T)) all-later);
+          onward = onward-first T ws whole room (allTurned T J (later 0) e)
+              (ap (λ xs. allTurned T J xs e) all-later ∙ sym (start-changed T J e (fits-of T ws room)));
           same = λ j l. refl;
         }
 
@@ -163,15 +152,15 @@ module _ (T : Tables) (new : List ℕ) (ws : List ℕ) where
         let from : (i + n) * 32 ≡ i * 32 + n * 32 = omega arith in
         rw (upto, from, places-split D (i * 32) (n * 32) ((words32 (atomCount T) - (i + n)) * 32), places-none D (i * 32) (n * 32) (λ a b c. alike a b (omega arith)))
 
-    starting-skip : (mid : List ℕ) (less i n : ℕ) → Starting mid less i → i + n ≤ words32 (atomCount T) → ((a : ℕ) → i * 32 ≤ a → a < (i + n) * 32 → D a ≡ false) → Starting mid less (i + n)
-    starting-skip mid less i n s l alike =
+    starting-skip : (mid : List ℕ) (i n : ℕ) → Starting mid i → i + n ≤ words32 (atomCount T) → ((a : ℕ) → i * 32 ≤ a → a < (i + n) * 32 → D a ≡ false) → Starting mid (i + n)
+    starting-skip mid i n s l alike =
         record { onward = rw (← skipped i n l alike) (s .onward); same = λ j b. s .same j (omega arith) }
 
     -- a word that stands as the new one has it
-    same-word : (mid : List ℕ) (less i : ℕ) → Starting mid less i → (q : ℕ) → i ≤ q → q < words32 (atomCount T) → getD mid (candidateStart T + q) 0 ≡ half new q
+    same-word : (mid : List ℕ) (i : ℕ) → Starting mid i → (q : ℕ) → i ≤ q → q < words32 (atomCount T) → getD mid (candidateStart T + q) 0 ≡ half new q
         → (a : ℕ) → q * 32 ≤ a → a < q * 32 + 32 → D a ≡ false
-    same-word mid less i s q b l h a x y =
-        let middle : used T ≤ length mid = onward-room T ws whole lowest room mid (allTurned T J (later i) (ofWords T mid)) (leastNode T less (later i)) (s .onward) in
+    same-word mid i s q b l h a x y =
+        let middle : used T ≤ length mid = onward-room T ws whole room mid (allTurned T J (later i) (ofWords T mid)) (s .onward) in
         let k : ℕ = a - q * 32 in
         let place : a ≡ q * 32 + k = omega arith in
         let below : k < 32 = omega arith in
@@ -185,24 +174,24 @@ module _ (T : Tables) (new : List ℕ) (ws : List ℕ) where
         alike false = refl
 
     -- pairs that are not marked, from pair p to the next mark or the last word
-    pub starting-marked : (mid : List ℕ) (less : ℕ) (marks : List ℕ) (p i j : ℕ) → i ≡ min (2 * p) (words32 (atomCount T)) → Starting mid less i
-        → Upto (candidateStart T) ws new (words32 (atomCount T)) marks → j ≡ next 64 marks p → Starting mid less (min (2 * j) (words32 (atomCount T)))
-    starting-marked mid less marks p i j o s marked q =
+    pub starting-marked : (mid : List ℕ) (marks : List ℕ) (p i j : ℕ) → i ≡ min (2 * p) (words32 (atomCount T)) → Starting mid i
+        → Upto (candidateStart T) ws new (words32 (atomCount T)) marks → j ≡ next 64 marks p → Starting mid (min (2 * j) (words32 (atomCount T)))
+    starting-marked mid marks p i j o s marked q =
         let from : p ≤ j = rw q (next-is 64 marks p .from) in
         let upto : min (2 * j) (words32 (atomCount T)) ≡ i + (min (2 * j) (words32 (atomCount T)) - i) = omega arith in
-        rw upto (starting-skip mid less i (min (2 * j) (words32 (atomCount T)) - i) s (omega arith) (λ a x y.
-        same-word ws (nodeCount T) 0 starting-first (a / 32) (omega arith) (omega arith)
+        rw upto (starting-skip mid i (min (2 * j) (words32 (atomCount T)) - i) s (omega arith) (λ a x y.
+        same-word ws 0 starting-first (a / 32) (omega arith) (omega arith)
         (marked (a / 32) (omega arith) (next-is 64 marks p .before (a / 32 / 2) (omega arith) (rw (← q) (omega arith)))) a (omega arith) (omega arith)))
 
-    module _ (mid : List ℕ) (less i : ℕ) (s : Starting mid less i) where
-      pub starting-done : i ≡ words32 (atomCount T) → Enters T ws whole lowest (Low less) mid
+    module _ (mid : List ℕ) (i : ℕ) (s : Starting mid i) where
+      pub starting-done : i ≡ words32 (atomCount T) → Wrote T ws whole true mid
       starting-done p =
           let end : later i ≡ [] = ap later p ∙ none-later in
-          onward-done T ws whole lowest room mid (allTurned T J (later i) (ofWords T mid)) (leastNode T less (later i)) (s .onward) (Low less)
-          (ap (λ xs. allTurned T J xs (ofWords T mid)) end ∙ turned-none T J (ofWords T mid)) (ap Low (sym (lowest-none T J less) ∙ ap (leastNode T less) (sym end)))
+          onward-done T ws whole room mid (allTurned T J (later i) (ofWords T mid)) (s .onward)
+          (ap (λ xs. allTurned T J xs (ofWords T mid)) end ∙ turned-none T J (ofWords T mid))
 
       middle : used T ≤ length mid
-      middle = onward-room T ws whole lowest room mid (allTurned T J (later i) (ofWords T mid)) (leastNode T less (later i)) (s .onward)
+      middle = onward-room T ws whole room mid (allTurned T J (later i) (ofWords T mid)) (s .onward)
 
       -- the next two words
       module _ (j : ℕ) (p : i ≡ 2 * j) (l : 2 * j + 1 < words32 (atomCount T)) where
@@ -228,23 +217,22 @@ module _ (T : Tables) (new : List ℕ) (ws : List ℕ) where
         go-on : allTurned T J (later i) (ofWords T mid) ≡ andThen (allTurned T J here (ofWords T mid)) (allTurned T J (later (i + 2)))
         go-on = ap (λ xs. allTurned T J xs (ofWords T mid)) split ∙ turned-append T J here (later (i + 2)) (ofWords T mid)
 
-        module _ (r : Entered) (after : List ℕ) (h : Enters T mid (allTurned T J here (ofWords T mid)) (leastNode T less here) r after) where
-          pub starting-stray : r ≡ Stray → Enters T ws whole lowest Stray after
+        module _ (r : Bool) (after : List ℕ) (h : Wrote T mid (allTurned T J here (ofWords T mid)) r after) where
+          pub starting-stray : r ≡ false → Wrote T ws whole false after
           starting-stray q =
-              let f = enters-stray T mid (allTurned T J here (ofWords T mid)) (leastNode T less here) r after h q in
-              onward-stray T ws whole lowest room mid (allTurned T J (later i) (ofWords T mid)) (leastNode T less (later i)) (s .onward) after Stray
-              (go-on ∙ ap (λ o. andThen o (allTurned T J (later (i + 2)))) (f .0)) (f .1) refl
+              let f = wrote-false T mid (allTurned T J here (ofWords T mid)) after r h q in
+              onward-stray T ws whole room mid (allTurned T J (later i) (ofWords T mid)) (s .onward) after
+              (go-on ∙ ap (λ o. andThen o (allTurned T J (later (i + 2)))) (f .0)) (f .1)
 
-          pub starting-more : (m : ℕ) → r ≡ Low m → Starting after m (i + 2)
-          starting-more m q =
-              let f = enters-low T mid (allTurned T J here (ofWords T mid)) (leastNode T less here) r after m h q in
+          pub starting-more : r ≡ true → Starting after (i + 2)
+          starting-more q =
+              let f = wrote-true T mid (allTurned T J here (ofWords T mid)) after r h q in
               let fits : Fits T (ofWords T mid) = fits-of T mid middle in
               let g : Fits T (f .0) = turned-fits T J here (ofWords T mid) (f .0) (f .1) fits in
               let holds : ofWords T after ≡ f .0 = ap (ofWords T) (f .2) ∙ of-written T mid middle (f .0) g in
               record {
-                onward = onward-more T ws whole lowest room mid (allTurned T J (later i) (ofWords T mid)) (leastNode T less (later i)) (s .onward)
-                    (allTurned T J here (ofWords T mid)) (allTurned T J (later (i + 2))) (f .0) after (leastNode T m (later (i + 2))) go-on (f .1) g (f .2)
-                    (ap (λ n. leastNode T n (later (i + 2))) (f .3) ∙ sym (lowest-append T J less here (later (i + 2))) ∙ ap (leastNode T less) (sym split));
+                onward = onward-more T ws whole room mid (allTurned T J (later i) (ofWords T mid)) (s .onward)
+                    (allTurned T J here (ofWords T mid)) (allTurned T J (later (i + 2))) (f .0) after go-on (f .1) g (f .2);
                 same = λ a b. ap (λ d. present d a) holds
                     ∙ turned-behind T J D differ-within 64 (j * 64) (ofWords T mid) (f .0) fits (ap (λ xs. allTurned T J xs (ofWords T mid)) (sym as-before) ∙ f .1) a (omega arith)
                     ∙ s .same a (omega arith);
@@ -271,6 +259,6 @@ module _ (T : Tables) (new : List ℕ) (ws : List ℕ) where
             ∙ sym (word-places (ofWords T mid .candidate) new i)
             ∙ places-agree (λ a. unlike (present (ofWords T mid) a) (member 64 new a)) D (i * 32) 32 (λ a b c. ap (λ p. unlike p (member 64 new a)) (s .same a b))))
 
-        pub last-done : (r : Entered) (after : List ℕ) → Enters T mid (allTurned T J (wordAtoms 32 i y) (ofWords T mid)) (leastNode T less (wordAtoms 32 i y)) r after → Enters T ws whole lowest r after
+        pub last-done : (r : Bool) (after : List ℕ) → Wrote T mid (allTurned T J (wordAtoms 32 i y) (ofWords T mid)) r after → Wrote T ws whole r after
         last-done r after h =
-            onward-then T ws whole lowest room mid (allTurned T J (later i) (ofWords T mid)) (leastNode T less (later i)) (s .onward) r after (rw all h)
+            onward-then T ws whole room mid (allTurned T J (later i) (ofWords T mid)) (s .onward) r after (rw all h)

@@ -18,16 +18,14 @@ use Rattle.words.specs.Bit.{bit}
 use Rattle.words.specs.BitLaws.{bit-zero, bit-xor, bit-power, one-shift, trailing-below, trailing-set, places-trailing}
 use Rattle.words.specs.Changed.{unlike}
 use Rattle.kept.specs.CountedSet.{andThen}
-use Rattle.kept.specs.Tables.{Tables, atomNodesAt}
+use Rattle.kept.specs.Tables.{Tables}
 use Rattle.kept.specs.Evaluation.{Evaluation}
-use Rattle.kept.specs.Start.{atomTurned, least, orNone, leastNode}
+use Rattle.kept.specs.Start.{atomTurned}
 use Rattle.kept.specs.Layout.{ofWords, used}
 use Rattle.kept_laws.specs.FitsLaws.{atom-fits}
-use Rattle.kept_laws.specs.StartChanged.{allTurned, least-node-more}
-use Rattle.start.specs.declared.Entered.{Entered}
-use Rattle.start.specs.declared.Entered.the-variants.{Low, Stray}
-use Rattle.start.specs.Enters.{Enters}
-use Rattle.start.specs.Onward.{enters-low, enters-stray, Onward, onward-first, onward-fits, onward-stray, onward-done, onward-more}
+use Rattle.kept_laws.specs.StartChanged.{allTurned}
+use Rattle.kept_laws.specs.Wrote.{Wrote, wrote-true, wrote-false}
+use Rattle.start.specs.Onward.{Onward, onward-first, onward-fits, onward-stray, onward-done, onward-more}
 
 -- of word i, of width w, those at the set places of x
 abbrev pub wordAtoms : ℕ → ℕ → ℕ → List ℕ
@@ -106,36 +104,28 @@ module _ (T : Tables) (J : Interpretation) where
   unfolding allTurned
   turned-more a rest e = refl
 
-  pub lowest-none : (n : ℕ) → leastNode T n [] ≡ n
-  unfolding leastNode
-  lowest-none n = refl
-
-  module _ (w : ℕ) (ws : List ℕ) (i y low : ℕ) where
+  module _ (w : ℕ) (ws : List ℕ) (i y : ℕ) where
     abbrev whole : Option Evaluation
     whole = allTurned T J (wordAtoms w i y) (ofWords T ws)
 
-    abbrev lowest : ℕ
-    lowest = leastNode T low (wordAtoms w i y)
-
     -- of the places of y those of x are left
-    abbrev pub Turning : List ℕ → ℕ → ℕ → Type 0
-    Turning mid less x = Onward T ws whole lowest mid (allTurned T J (wordAtoms w i x) (ofWords T mid)) (leastNode T less (wordAtoms w i x))
+    abbrev pub Turning : List ℕ → ℕ → Type 0
+    Turning mid x = Onward T ws whole mid (allTurned T J (wordAtoms w i x) (ofWords T mid))
 
     module _ (room : used T ≤ length ws) where
-      pub turning-first : Turning ws low y
-      turning-first = onward-first T ws whole lowest room whole lowest refl refl
+      pub turning-first : Turning ws y
+      turning-first = onward-first T ws whole room whole refl
 
-      module _ (mid : List ℕ) (less x : ℕ) (o : Turning mid less x) where
+      module _ (mid : List ℕ) (x : ℕ) (o : Turning mid x) where
         abbrev rest : Option Evaluation
         rest = allTurned T J (wordAtoms w i x) (ofWords T mid)
 
-        pub turning-done : x ≡ 0 → Enters T ws whole lowest (Low less) mid
+        pub turning-done : x ≡ 0 → Wrote T ws whole true mid
         turning-done z =
-            onward-done T ws whole lowest room mid rest (leastNode T less (wordAtoms w i x)) o (Low less)
-            (rw (z, atoms-none w i) (turned-none (ofWords T mid))) (rw (z, atoms-none w i, lowest-none less))
+            onward-done T ws whole room mid rest o (rw (z, atoms-none w i) (turned-none (ofWords T mid)))
 
-        module _ (small : x < 2 ^ w) (ne : x ≡ 0 → ⊥) (r : Entered) (after : List ℕ)
-            (h : Enters T mid (atomTurned T J (i * w + trailingZeros w x) (ofWords T mid)) (least less (orNone (atomNodesAt T (i * w + trailingZeros w x)))) r after) where
+        module _ (small : x < 2 ^ w) (ne : x ≡ 0 → ⊥) (r : Bool) (after : List ℕ)
+            (h : Wrote T mid (atomTurned T J (i * w + trailingZeros w x) (ofWords T mid)) r after) where
           abbrev a : ℕ
           a = i * w + trailingZeros w x
 
@@ -145,15 +135,13 @@ module _ (T : Tables) (J : Interpretation) where
           go-on : rest ≡ andThen (atomTurned T J a (ofWords T mid)) (allTurned T J (wordAtoms w i y'))
           go-on = ap (λ l. allTurned T J l (ofWords T mid)) (atoms-first w x small ne i) ∙ turned-more a (wordAtoms w i y') (ofWords T mid)
 
-          pub turning-stray : r ≡ Stray → Enters T ws whole lowest Stray after
+          pub turning-stray : r ≡ false → Wrote T ws whole false after
           turning-stray s =
-              let f = enters-stray T mid (atomTurned T J a (ofWords T mid)) (least less (orNone (atomNodesAt T a))) r after h s in
-              onward-stray T ws whole lowest room mid rest (leastNode T less (wordAtoms w i x)) o after Stray (go-on ∙ ap (λ o. andThen o (allTurned T J (wordAtoms w i y'))) (f .0)) (f .1) refl
+              let f = wrote-false T mid (atomTurned T J a (ofWords T mid)) after r h s in
+              onward-stray T ws whole room mid rest o after (go-on ∙ ap (λ o. andThen o (allTurned T J (wordAtoms w i y'))) (f .0)) (f .1)
 
-          pub turning-more : (m : ℕ) → r ≡ Low m → Turning after m y'
-          turning-more m s =
-              let f = enters-low T mid (atomTurned T J a (ofWords T mid)) (least less (orNone (atomNodesAt T a))) r after m h s in
-              onward-more T ws whole lowest room mid rest (leastNode T less (wordAtoms w i x)) o (atomTurned T J a (ofWords T mid)) (allTurned T J (wordAtoms w i y')) (f .0) after
-              (leastNode T m (wordAtoms w i y')) go-on (f .1)
-              (atom-fits T J a (ofWords T mid) (f .0) (f .1) (onward-fits T ws whole lowest room mid rest (leastNode T less (wordAtoms w i x)) o)) (f .2)
-              (ap (λ n. leastNode T n (wordAtoms w i y')) (f .3) ∙ sym (least-node-more T less a (wordAtoms w i y')) ∙ ap (leastNode T less) (sym (atoms-first w x small ne i)))
+          pub turning-more : r ≡ true → Turning after y'
+          turning-more s =
+              let f = wrote-true T mid (atomTurned T J a (ofWords T mid)) after r h s in
+              onward-more T ws whole room mid rest o (atomTurned T J a (ofWords T mid)) (allTurned T J (wordAtoms w i y')) (f .0) after
+              go-on (f .1) (atom-fits T J a (ofWords T mid) (f .0) (f .1) (onward-fits T ws whole room mid rest o)) (f .2)

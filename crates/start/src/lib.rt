@@ -14,136 +14,92 @@ ghost use Rattle.words.specs.Changed.{unlike};
 ghost use Rattle.words.specs.Sets.{member};
 ghost use Rattle.readers.specs.ReaderTable.{readerWords};
 ghost use Rattle.kept.specs.SetOf.{words32, words64};
-ghost use Rattle.kept.specs.Tables.{Tables, atomNodesAt};
+ghost use Rattle.kept.specs.Tables.{Tables};
 ghost use Rattle.kept.specs.Evaluation.{present};
 ghost use Rattle.kept.specs.Layout.{ofWords};
-ghost use Rattle.kept.specs.Start.{allEntered, atomTurned, walkStart, least, orNone, leastNode, lowestEntered};
+ghost use Rattle.kept.specs.Start.{allEntered, atomTurned, walkStart};
 ghost use Rattle.kept_laws.specs.Given.{candidateAt, usedBy, sized, listed};
 ghost use Rattle.kept_laws.specs.StartChanged.{allTurned};
+ghost use Rattle.kept_laws.specs.Wrote.{Wrote};
 ghost use Rattle.difference.specs.Marks.{Marked};
-ghost use Rattle.start.specs.Enters.{Enters};
 use theory::Counts;
 
-// The lowest node entered, or the number that was given; Stray is refusal 17.
-pub enum Entered {
-    Low(usize),
-    Stray,
-}
-
-// The nodes listed onto the worklist.
-fn enter_all(counts: Counts, list: &[u64], kept: &mut [u32], low: usize) -> Entered
+// The nodes listed onto the worklist; false is refusal 17, here and below.
+fn enter_all(counts: Counts, list: &[u64], kept: &mut [u32]) -> bool
     requires { ⌜ Limited counts × (usedBy counts ≤ length (now kept)) ⌝ }
-    ensures { λ r. ⌜ ((T : Tables) → Enters (sized counts T) (now (kept .entry)) (allEntered (sized counts T) (ofWords (sized counts T) (now (kept .entry))) (now (list .entry))) (least low (now (list .entry))) r (now (kept .exit))) ⌝ }
+    ensures { λ r. ⌜ ((T : Tables) → Wrote (sized counts T) (now (kept .entry)) (allEntered (sized counts T) (ofWords (sized counts T) (now (kept .entry))) (now (list .entry))) r (now (kept .exit))) ⌝ }
 {
-    let mut lowest = low;
     let mut i = 0;
     while i < list.len() {
         let m = words::word64(list, i);
         if m >= counts.nodes {
-            return Entered::Stray;
+            return false;
         }
         if !retained::queue(counts, kept, m) {
-            return Entered::Stray;
-        }
-        if m < lowest {
-            lowest = m;
+            return false;
         }
         i += 1;
     }
-    Entered::Low(lowest)
+    true
 }
 
 // Atom a becomes present or not, and its atom nodes go onto the worklist.
-fn turn_atom(
-    counts: Counts,
-    readers: &[u64],
-    kept: &mut [u32],
-    a: usize,
-    x: bool,
-    low: usize,
-) -> Entered
+fn turn_atom(counts: Counts, readers: &[u64], kept: &mut [u32], a: usize, x: bool) -> bool
     requires { ⌜ Limited counts × (readerWords counts ≤ length (now readers)) × (usedBy counts ≤ length (now kept)) × (a < counts .atoms) ⌝ }
-    ensures { λ r. ⌜ ((T : Tables) (J : Interpretation) → J a ≡ x → Enters (listed counts (now (readers .entry)) T) (now (kept .entry)) (atomTurned (listed counts (now (readers .entry)) T) J a (ofWords (listed counts (now (readers .entry)) T) (now (kept .entry)))) (least low (orNone (atomNodesAt (listed counts (now (readers .entry)) T) a))) r (now (kept .exit))) ⌝ }
+    ensures { λ r. ⌜ ((T : Tables) (J : Interpretation) → J a ≡ x → Wrote (listed counts (now (readers .entry)) T) (now (kept .entry)) (atomTurned (listed counts (now (readers .entry)) T) J a (ofWords (listed counts (now (readers .entry)) T) (now (kept .entry)))) r (now (kept .exit))) ⌝ }
 {
     if !retained::presence(counts, kept, a, x) {
-        return Entered::Stray;
+        return false;
     }
     let size = 2 + counts.atoms + 4 * counts.nodes + counts.operands + 2 * counts.roots;
     if !readers::in_order(readers, size, counts.nodes + 1 + a) {
-        return Entered::Stray;
+        return false;
     }
     enter_all(
         counts,
         readers::atom_nodes_of(readers, counts.nodes, a),
         kept,
-        low,
     )
 }
 
 // The atoms of word i become as `new` has them: those at which it differs from the kept word.
-fn turn_word(
-    counts: Counts,
-    readers: &[u64],
-    kept: &mut [u32],
-    i: usize,
-    new: u32,
-    low: usize,
-) -> Entered
+fn turn_word(counts: Counts, readers: &[u64], kept: &mut [u32], i: usize, new: u32) -> bool
     requires { ⌜ Limited counts × (readerWords counts ≤ length (now readers)) × (usedBy counts ≤ length (now kept)) × (i < words32 (counts .atoms)) ⌝ }
     requires { ⌜ ((k : ℕ) → k < 32 → bit (bitXor (getD (now kept) (candidateAt counts + i) 0) new) k ≡ true → i * 32 + k < counts .atoms) ⌝ }
-    ensures { λ r. ⌜ ((T : Tables) (J : Interpretation) → ((k : ℕ) → k < 32 → J (i * 32 + k) ≡ bit new k) → Enters (listed counts (now (readers .entry)) T) (now (kept .entry)) (allTurned (listed counts (now (readers .entry)) T) J (map (λ k. i * 32 + k) (places (bit (bitXor (getD (now (kept .entry)) (candidateAt counts + i) 0) new)) 0 32)) (ofWords (listed counts (now (readers .entry)) T) (now (kept .entry)))) (leastNode (listed counts (now (readers .entry)) T) low (map (λ k. i * 32 + k) (places (bit (bitXor (getD (now (kept .entry)) (candidateAt counts + i) 0) new)) 0 32))) r (now (kept .exit))) ⌝ }
+    ensures { λ r. ⌜ ((T : Tables) (J : Interpretation) → ((k : ℕ) → k < 32 → J (i * 32 + k) ≡ bit new k) → Wrote (listed counts (now (readers .entry)) T) (now (kept .entry)) (allTurned (listed counts (now (readers .entry)) T) J (map (λ k. i * 32 + k) (places (bit (bitXor (getD (now (kept .entry)) (candidateAt counts + i) 0) new)) 0 32)) (ofWords (listed counts (now (readers .entry)) T) (now (kept .entry)))) r (now (kept .exit))) ⌝ }
 {
     let n = counts.nodes;
-    let at = 16 + n + (n + 31) / 32 + counts.atoms + i;
-    let mut lowest = low;
+    let at = 8 + n + (n + 31) / 32 + counts.atoms + i;
     let mut x = kept[at] ^ new;
     while x != 0 {
         let t = u32::trailing_zeros(x);
         let a = i * 32 + t as usize;
-        match turn_atom(counts, readers, kept, a, (new >> t) % 2 == 1, lowest) {
-            Entered::Low(m) => {
-                lowest = m;
-            }
-            Entered::Stray => {
-                return Entered::Stray;
-            }
+        if !turn_atom(counts, readers, kept, a, (new >> t) % 2 == 1) {
+            return false;
         }
         x = x ^ (1u32 << t);
     }
-    Entered::Low(lowest)
+    true
 }
 
 // The atoms of words 2 j and 2 j + 1, taken as one, become as `new` has them: one loop for both, as one of the two often has no change.
-fn turn_pair(
-    counts: Counts,
-    readers: &[u64],
-    kept: &mut [u32],
-    j: usize,
-    new: u64,
-    low: usize,
-) -> Entered
+fn turn_pair(counts: Counts, readers: &[u64], kept: &mut [u32], j: usize, new: u64) -> bool
     requires { ⌜ Limited counts × (readerWords counts ≤ length (now readers)) × (usedBy counts ≤ length (now kept)) × (2 * j + 1 < words32 (counts .atoms)) ⌝ }
     requires { ⌜ ((T : Tables) (k : ℕ) → k < 64 → unlike (present (ofWords (listed counts (now readers) T) (now kept)) (j * 64 + k)) (bit new k) ≡ true → j * 64 + k < counts .atoms) ⌝ }
-    ensures { λ r. ⌜ ((T : Tables) (J : Interpretation) → ((k : ℕ) → k < 64 → J (j * 64 + k) ≡ bit new k) → Enters (listed counts (now (readers .entry)) T) (now (kept .entry)) (allTurned (listed counts (now (readers .entry)) T) J (places (λ a. unlike (present (ofWords (listed counts (now (readers .entry)) T) (now (kept .entry))) a) (J a)) (j * 64) 64) (ofWords (listed counts (now (readers .entry)) T) (now (kept .entry)))) (leastNode (listed counts (now (readers .entry)) T) low (places (λ a. unlike (present (ofWords (listed counts (now (readers .entry)) T) (now (kept .entry))) a) (J a)) (j * 64) 64)) r (now (kept .exit))) ⌝ }
+    ensures { λ r. ⌜ ((T : Tables) (J : Interpretation) → ((k : ℕ) → k < 64 → J (j * 64 + k) ≡ bit new k) → Wrote (listed counts (now (readers .entry)) T) (now (kept .entry)) (allTurned (listed counts (now (readers .entry)) T) J (places (λ a. unlike (present (ofWords (listed counts (now (readers .entry)) T) (now (kept .entry))) a) (J a)) (j * 64) 64) (ofWords (listed counts (now (readers .entry)) T) (now (kept .entry)))) r (now (kept .exit))) ⌝ }
 {
     let n = counts.nodes;
-    let at = 16 + n + (n + 31) / 32 + counts.atoms + 2 * j;
-    let mut lowest = low;
+    let at = 8 + n + (n + 31) / 32 + counts.atoms + 2 * j;
     let mut x = difference::pair(kept, at) ^ new;
     while x != 0 {
         let k = u64::trailing_zeros(x);
         let a = j * 64 + k as usize;
-        match turn_atom(counts, readers, kept, a, (new >> k) % 2 == 1, lowest) {
-            Entered::Low(m) => {
-                lowest = m;
-            }
-            Entered::Stray => {
-                return Entered::Stray;
-            }
+        if !turn_atom(counts, readers, kept, a, (new >> k) % 2 == 1) {
+            return false;
         }
         x = x ^ (1u64 << k);
     }
-    Entered::Low(lowest)
+    true
 }
 
 // The new candidate, and the atom nodes of changed atoms on the worklist; `candidate` is its listed words, `marks` the pairs of u32 words that may differ.
@@ -153,28 +109,22 @@ pub fn start(
     readers: &[u64],
     kept: &mut [u32],
     marks: &[u64],
-) -> Entered
+) -> bool
     requires { ⌜ Limited counts × (length (now candidate) ≡ words64 (counts .atoms)) × (readerWords counts ≤ length (now readers)) × (usedBy counts ≤ length (now kept)) × Marked counts (now kept) (now candidate) (now marks) × (words64 (counts .atoms) ≤ 64 * length (now marks)) × (length (now marks) ≤ 16) ⌝ }
     requires { ⌜ Within (counts .atoms) (member 64 (now candidate)) × ((T : Tables) → Within (counts .atoms) (present (ofWords (sized counts T) (now kept)))) ⌝ }
-    ensures { λ r. ⌜ ((T : Tables) → Enters (listed counts (now (readers .entry)) T) (now (kept .entry)) (walkStart (listed counts (now (readers .entry)) T) (member 64 (now (candidate .entry))) (counts .atoms) (ofWords (listed counts (now (readers .entry)) T) (now (kept .entry)))) (lowestEntered (listed counts (now (readers .entry)) T) (member 64 (now (candidate .entry))) (ofWords (listed counts (now (readers .entry)) T) (now (kept .entry)))) r (now (kept .exit))) ⌝ }
+    ensures { λ r. ⌜ ((T : Tables) → Wrote (listed counts (now (readers .entry)) T) (now (kept .entry)) (walkStart (listed counts (now (readers .entry)) T) (member 64 (now (candidate .entry))) (counts .atoms) (ofWords (listed counts (now (readers .entry)) T) (now (kept .entry)))) r (now (kept .exit))) ⌝ }
 {
     let pairs = (counts.atoms + 31) / 32 / 2;
-    let mut lowest = counts.nodes;
     let mut j = words::set64::next(marks, 0);
     while j < pairs {
-        match turn_pair(counts, readers, kept, j, candidate[j], lowest) {
-            Entered::Low(m) => {
-                lowest = m;
-            }
-            Entered::Stray => {
-                return Entered::Stray;
-            }
+        if !turn_pair(counts, readers, kept, j, candidate[j]) {
+            return false;
         }
         j = words::set64::next(marks, j + 1);
     }
     if j < candidate.len() {
         let word = retained::half_word(candidate, 2 * pairs);
-        return turn_word(counts, readers, kept, 2 * pairs, word, lowest);
+        return turn_word(counts, readers, kept, 2 * pairs, word);
     }
-    Entered::Low(lowest)
+    true
 }

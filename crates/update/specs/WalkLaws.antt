@@ -15,6 +15,7 @@ use borrow.Author.Tests.{ne-eqb, lt-ltb, le-ltb, ltb-false}
 use Rattle.base.specs.Tests.{equal-or}
 use Rattle.formula.specs.Satisfaction.{Interpretation}
 use Rattle.formula.specs.Passes.{Within}
+use Rattle.theory.specs.declared.Counts.{Counts}
 use Rattle.theory.specs.declared.Refusal.the-variants.{BadEntry}
 use Rattle.words.specs.BitLaws.{trailing-below}
 use Rattle.words.specs.Next.{next}
@@ -30,6 +31,7 @@ use Rattle.kept.specs.Check.{Result, concluded, keptResult}
 use Rattle.kept.specs.Layout.{ofWords, written, candidateStart, used}
 use Rattle.kept.specs.LayoutLaws.{Fits, fits-of}
 use Rattle.kept_laws.specs.FitsLaws.{step-fits, start-fits}
+use Rattle.kept_laws.specs.Given.{candidateAt, usedBy}
 use Rattle.kept_laws.specs.WalkEnds.{step-next}
 use Rattle.kept_laws.specs.Turns.{resumed, resumed-none, walk-more, walk-done, walk-stop}
 use Rattle.kept_laws.specs.Written.{written-same, of-written, length-written, written-again, part-candidate, get-candidate, get-first}
@@ -127,6 +129,10 @@ module _ (T : Tables) (ws : List ℕ) (long : used T ≤ length ws) where
         (beside-then T ws now after (rw (w .put) (beside-written T ws (ofWords T now) long (w .fits))) (s .1))
 
 -- ---- before it
+
+-- the last word of the kept candidate is within the words
+pub last-within : (t : Counts) (long : ℕ) → usedBy t ≤ long → (t .atoms % 32 ≡ 0 → ⊥) → candidateAt t + t .atoms / 32 < long
+last-within t long h ne = omega (arith, ne)
 
 module _ (T : Tables) (J : Interpretation) (ws : List ℕ) (long : used T ≤ length ws) where
   abbrev e : Evaluation

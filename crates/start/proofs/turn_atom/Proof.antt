@@ -24,7 +24,7 @@ same-length c = search needs
 
 -- src/lib.rt:69:9
 returns : tie.Need-returns
-returns c = λ T J same. turn-none (listed (c .before .before .before .before .before .before .before .args .counts) (c .before .before .before .before .before .before .before .args .readers .now) T) (c .before .before .before .before .before .before .before .args .a) J (c .before .before .before .before .before .before .before .args .x) same (c .before .before .before .before .before .before .before .args .kept .now) (c .before .before .before .before .before .before .before .pre .2) (c .before .before .before .before .before .before .before .args .low) _ _ (c .before .before .before .presence .ensures (listed (c .before .before .before .before .before .before .before .args .counts) (c .before .before .before .before .before .before .before .args .readers .now) T)) (not-true _ (c .if1 .taken))
+returns c = λ T J same. turn-none (listed (c .before .before .before .before .before .before .before .args .counts) (c .before .before .before .before .before .before .before .args .readers .now) T) (c .before .before .before .before .before .before .before .args .a) J (c .before .before .before .before .before .before .before .args .x) same (c .before .before .before .before .before .before .before .args .kept .now) (c .before .before .before .before .before .before .before .pre .2) _ _ (c .before .before .before .presence .ensures (listed (c .before .before .before .before .before .before .before .args .counts) (c .before .before .before .before .before .before .before .args .readers .now) T)) (not-true _ (c .if1 .taken))
 
 -- src/lib.rt:71:16
 add-size : tie.Need-add-size
@@ -68,7 +68,7 @@ same-length-2 c = search needs
 
 -- src/lib.rt:73:9
 returns-2 : tie.Need-returns-2
-returns-2 c = λ T J same. turn-disordered (listed (c .before .before .before .before .before .before .before .before .before .before .before .before .before .before .args .counts) (c .before .before .before .before .before .before .before .before .before .before .before .before .before .before .args .readers .now) T) (c .before .before .before .before .before .before .before .before .before .before .before .before .before .before .args .a) J (c .before .before .before .before .before .before .before .before .before .before .before .before .before .before .args .x) same (c .before .before .before .before .before .before .before .before .before .before .before .before .before .before .args .kept .now) (c .before .before .before .before .before .before .before .before .before .before .before .before .before .before .pre .2) (c .before .before .before .before .before .before .before .before .before .before .before .before .before .before .args .low) _ _ (c .before .before .before .before .before .before .before .before .before .before .presence .ensures (listed (c .before .before .before .before .before .before .before .before .before .before .before .before .before .before .args .counts) (c .before .before .before .before .before .before .before .before .before .before .before .before .before .before .args .readers .now) T)) (not-false _ (c .before .before .before .before .before .before .before .if1 .left)) (sym (c .before .in-order .ensures) ∙ not-true _ (c .if2 .taken))
+returns-2 c = λ T J same. turn-disordered (listed (c .before .before .before .before .before .before .before .before .before .before .before .before .before .before .args .counts) (c .before .before .before .before .before .before .before .before .before .before .before .before .before .before .args .readers .now) T) (c .before .before .before .before .before .before .before .before .before .before .before .before .before .before .args .a) J (c .before .before .before .before .before .before .before .before .before .before .before .before .before .before .args .x) same (c .before .before .before .before .before .before .before .before .before .before .before .before .before .before .args .kept .now) (c .before .before .before .before .before .before .before .before .before .before .before .before .before .before .pre .2) _ _ (c .before .before .before .before .before .before .before .before .before .before .presence .ensures (listed (c .before .before .before .before .before .before .before .before .before .before .before .before .before .before .args .counts) (c .before .before .before .before .before .before .before .before .before .before .before .before .before .before .args .readers .now) T)) (not-false _ (c .before .before .before .before .before .before .before .if1 .left)) (sym (c .before .in-order .ensures) ∙ not-true _ (c .if2 .taken))
 
 -- src/lib.rt:77:9
 atom-nodes-of-requires : tie.Need-atom-nodes-of-requires
@@ -84,7 +84,7 @@ same-length-3 c = search needs
 
 -- src/lib.rt:57:1
 returns-3 : tie.Need-returns-3
-returns-3 c = λ T J same. turn-done (listed (c .before .before .before .before .before .before .before .before .before .before .before .before .before .before .before .before .before .before .before .args .counts) (c .before .before .before .before .before .before .before .before .before .before .before .before .before .before .before .before .before .before .before .args .readers .now) T) (c .before .before .before .before .before .before .before .before .before .before .before .before .before .before .before .before .before .before .before .args .a) J (c .before .before .before .before .before .before .before .before .before .before .before .before .before .before .before .before .before .before .before .args .x) same (c .before .before .before .before .before .before .before .before .before .before .before .before .before .before .before .before .before .before .before .args .kept .now) (c .before .before .before .before .before .before .before .before .before .before .before .before .before .before .before .before .before .before .before .pre .2) (c .before .before .before .before .before .before .before .before .before .before .before .before .before .before .before .before .before .before .before .args .low) _ _ (c .before .before .before .before .before .before .before .before .before .before .before .before .before .before .before .presence .ensures (listed (c .before .before .before .before .before .before .before .before .before .before .before .before .before .before .before .before .before .before .before .args .counts) (c .before .before .before .before .before .before .before .before .before .before .before .before .before .before .before .before .before .before .before .args .readers .now) T)) (not-false _ (c .before .before .before .before .before .before .before .before .before .before .before .before .if1 .left)) (sym (c .before .before .before .before .before .before .in-order .ensures) ∙ not-false _ (c .before .before .before .before .before .if2 .left)) _ (c .before .before .before .before .atom-nodes-of .ensures) _ _ (c .before .before .enter-all .ensures (listed (c .before .before .before .before .before .before .before .before .before .before .before .before .before .before .before .before .before .before .before .args .counts) (c .before .before .before .before .before .before .before .before .before .before .before .before .before .before .before .before .before .before .before .args .readers .now) T))
+returns-3 c = λ T J same. turn-done (listed (c .before .before .before .before .before .before .before .before .before .before .before .before .before .before .before .before .before .before .before .args .counts) (c .before .before .before .before .before .before .before .before .before .before .before .before .before .before .before .before .before .before .before .args .readers .now) T) (c .before .before .before .before .before .before .before .before .before .before .before .before .before .before .before .before .before .before .before .args .a) J (c .before .before .before .before .before .before .before .before .before .before .before .before .before .before .before .before .before .before .before .args .x) same (c .before .before .before .before .before .before .before .before .before .before .before .before .before .before .before .before .before .before .before .args .kept .now) (c .before .before .before .before .before .before .before .before .before .before .before .before .before .before .before .before .before .before .before .pre .2) _ _ (c .before .before .before .before .before .before .before .before .before .before .before .before .before .before .before .presence .ensures (listed (c .before .before .before .before .before .before .before .before .before .before .before .before .before .before .before .before .before .before .before .args .counts) (c .before .before .before .before .before .before .before .before .before .before .before .before .before .before .before .before .before .before .before .args .readers .now) T)) (not-false _ (c .before .before .before .before .before .before .before .before .before .before .before .before .if1 .left)) (sym (c .before .before .before .before .before .before .in-order .ensures) ∙ not-false _ (c .before .before .before .before .before .if2 .left)) _ (c .before .before .before .before .atom-nodes-of .ensures) _ _ (c .before .before .enter-all .ensures (listed (c .before .before .before .before .before .before .before .before .before .before .before .before .before .before .before .before .before .before .before .args .counts) (c .before .before .before .before .before .before .before .before .before .before .before .before .before .before .before .before .before .before .before .args .readers .now) T))
 
 pub turn-atom-spec : {M : Type 1} → statement M
 turn-atom-spec =

@@ -9,6 +9,7 @@ use Rattle.formula.specs.Satisfaction.{Interpretation}
 use Rattle.words.specs.Bit.{bit}
 use Rattle.kept.specs.Tables.{Tables}
 use Rattle.kept_laws.specs.Given.{candidateAt, bare, listed}
+use Rattle.kept_laws.specs.OptionLaws.{not-true, not-false}
 use Rattle.start.specs.WordLaws.{Left, left-place, left-atom, left-other, left-less, place-read, Turning, turning-first, turning-done, turning-stray, turning-more}
 use Rattle.start.specs.PairLaws.{pair-within, pair-enters}
 use Rattle.start.proofs.turn_pair.Statement.{statement}
@@ -19,13 +20,13 @@ use Rattle.difference.proofs.pair.Reads as pair-reads
 use Rattle.start.proofs.turn_atom.Reads as turn-atom-reads
 
 abbrev Inv-loop : tie.InvT-loop
-Inv-loop counts readers kept₀ j new low n at lowest₀ x₀ kept lowest x =
+Inv-loop counts readers kept₀ j new n at x₀ kept x =
     ((T : Tables) (J : Interpretation) → ((k : ℕ) → k < 64 → J (j * 64 + k) ≡ bit new k)
-    → Turning (listed counts readers T) J 64 kept₀ j (bitXor (getD kept₀ (candidateAt counts + 2 * j) 0 + getD kept₀ (candidateAt counts + 2 * j + 1) 0 * 4294967296) new) low kept lowest x)
+    → Turning (listed counts readers T) J 64 kept₀ j (bitXor (getD kept₀ (candidateAt counts + 2 * j) 0 + getD kept₀ (candidateAt counts + 2 * j + 1) 0 * 4294967296) new) kept x)
     × Left 64 (counts .atoms) j x × (length kept ≡ length kept₀)
 
 abbrev μ-loop : tie.MeasureT-loop
-μ-loop counts readers kept₀ j new low n at lowest₀ x₀ kept lowest x = count (bit x) 0 64
+μ-loop counts readers kept₀ j new n at x₀ kept x = count (bit x) 0 64
 
 -- src/lib.rt:130:14
 add-at : tie.Need-add-at Inv-loop μ-loop
@@ -57,7 +58,7 @@ pair-requires c κs = search needs
 
 -- src/lib.rt:133:5
 loop-holds : tie.Need-loop-holds Inv-loop μ-loop
-loop-holds c = let e : c .pair .result ≡ getD (c .before .before .before .before .before .args .kept .now) (candidateAt (c .before .before .before .before .before .args .counts) + 2 * c .before .before .before .before .before .args .j) 0 + getD (c .before .before .before .before .before .args .kept .now) (candidateAt (c .before .before .before .before .before .args .counts) + 2 * c .before .before .before .before .before .args .j + 1) 0 * 4294967296 = c .pair .ensures in (λ T J same. rw e (turning-first (listed (c .before .before .before .before .before .args .counts) (c .before .before .before .before .before .args .readers .now) T) J 64 (c .before .before .before .before .before .args .kept .now) (c .before .before .before .before .before .args .j) (bitXor (getD (c .before .before .before .before .before .args .kept .now) (candidateAt (c .before .before .before .before .before .args .counts) + 2 * c .before .before .before .before .before .args .j) 0 + getD (c .before .before .before .before .before .args .kept .now) (candidateAt (c .before .before .before .before .before .args .counts) + 2 * c .before .before .before .before .before .args .j + 1) 0 * 4294967296) (c .before .before .before .before .before .args .new)) (c .before .before .before .before .before .args .low) (c .before .before .before .before .before .pre .0 .2)), record { small = xor-lt 64 (c .pair .result) (c .before .before .before .before .before .args .new) (omega (arith, e, c .before .before .before .slice-known .given (candidateAt (c .before .before .before .before .before .args .counts) + 2 * c .before .before .before .before .before .args .j), c .before .before .before .slice-known .given (candidateAt (c .before .before .before .before .before .args .counts) + 2 * c .before .before .before .before .before .args .j + 1))) (c .before .before .before .before .before .fits .new .fits); within = rw e (pair-within (listed (c .before .before .before .before .before .args .counts) (c .before .before .before .before .before .args .readers .now) (bare (c .before .before .before .before .before .args .counts))) (c .before .before .before .before .before .args .kept .now) (c .before .before .before .before .before .pre .0 .2) (c .before .before .before .before .before .args .j) (c .before .before .before .before .before .pre .0 .3) (omega (arith, c .before .before .before .slice-known .given (candidateAt (c .before .before .before .before .before .args .counts) + 2 * c .before .before .before .before .before .args .j))) (c .before .before .before .before .before .args .new) (c .before .before .before .before .before .pre .1 (bare (c .before .before .before .before .before .args .counts)))) }, refl)
+loop-holds c = let e : c .pair .result ≡ getD (c .before .before .before .before .before .args .kept .now) (candidateAt (c .before .before .before .before .before .args .counts) + 2 * c .before .before .before .before .before .args .j) 0 + getD (c .before .before .before .before .before .args .kept .now) (candidateAt (c .before .before .before .before .before .args .counts) + 2 * c .before .before .before .before .before .args .j + 1) 0 * 4294967296 = c .pair .ensures in (λ T J same. rw e (turning-first (listed (c .before .before .before .before .before .args .counts) (c .before .before .before .before .before .args .readers .now) T) J 64 (c .before .before .before .before .before .args .kept .now) (c .before .before .before .before .before .args .j) (bitXor (getD (c .before .before .before .before .before .args .kept .now) (candidateAt (c .before .before .before .before .before .args .counts) + 2 * c .before .before .before .before .before .args .j) 0 + getD (c .before .before .before .before .before .args .kept .now) (candidateAt (c .before .before .before .before .before .args .counts) + 2 * c .before .before .before .before .before .args .j + 1) 0 * 4294967296) (c .before .before .before .before .before .args .new)) (c .before .before .before .before .before .pre .0 .2)), record { small = xor-lt 64 (c .pair .result) (c .before .before .before .before .before .args .new) (omega (arith, e, c .before .before .before .slice-known .given (candidateAt (c .before .before .before .before .before .args .counts) + 2 * c .before .before .before .before .before .args .j), c .before .before .before .slice-known .given (candidateAt (c .before .before .before .before .before .args .counts) + 2 * c .before .before .before .before .before .args .j + 1))) (c .before .before .before .before .before .fits .new .fits); within = rw e (pair-within (listed (c .before .before .before .before .before .args .counts) (c .before .before .before .before .before .args .readers .now) (bare (c .before .before .before .before .before .args .counts))) (c .before .before .before .before .before .args .kept .now) (c .before .before .before .before .before .pre .0 .2) (c .before .before .before .before .before .args .j) (c .before .before .before .before .before .pre .0 .3) (omega (arith, c .before .before .before .slice-known .given (candidateAt (c .before .before .before .before .before .args .counts) + 2 * c .before .before .before .before .before .args .j))) (c .before .before .before .before .before .args .new) (c .before .before .before .before .before .pre .1 (bare (c .before .before .before .before .before .args .counts)))) }, refl)
 
 -- src/lib.rt:135:17
 mul-a : tie.Need-mul-a Inv-loop μ-loop
@@ -83,37 +84,29 @@ shr-turn-atom c = left-place _ _ _ _ (c .before .before .loop .inv .1) (c .befor
 turn-atom-requires : tie.Need-turn-atom-requires Inv-loop μ-loop
 turn-atom-requires c κs = (c .before .before .before .before .before .before .before .before .pre .0 .0, c .before .before .before .before .before .before .before .before .pre .0 .1, omega (arith, c .before .before .before .before .before .before .before .before .pre .0 .2, c .before .before .loop .inv .2), left-atom _ _ _ _ (c .before .before .loop .inv .1) (c .before .loop-test .taken))
 
--- src/lib.rt:137:26
-enum-known-m : tie.Need-enum-known-m Inv-loop μ-loop
-enum-known-m c = search needs
-
--- src/lib.rt:141:17
-enum-told : tie.Need-enum-told Inv-loop μ-loop
-enum-told c = search needs
-
 -- src/lib.rt:141:17
 same-length : tie.Need-same-length Inv-loop μ-loop
 same-length c = search needs
 
 -- src/lib.rt:141:17
 returns : tie.Need-returns Inv-loop μ-loop
-returns c = λ T J same. pair-enters (listed (c .before .before .before .before .before .before .before .before .before .before .before .before .before .args .counts) (c .before .before .before .before .before .before .before .before .before .before .before .before .before .args .readers .now) T) (c .before .before .before .before .before .before .before .before .before .before .before .before .before .args .kept .now) (c .before .before .before .before .before .before .before .before .before .before .before .before .before .pre .0 .2) (c .before .before .before .before .before .before .before .before .before .before .before .before .before .args .j) (c .before .before .before .before .before .before .before .before .before .before .before .before .before .pre .0 .3) (omega (arith, c .before .before .before .before .before .before .before .before .before .before .before .slice-known .given (candidateAt (c .before .before .before .before .before .before .before .before .before .before .before .before .before .args .counts) + 2 * c .before .before .before .before .before .before .before .before .before .before .before .before .before .args .j))) (c .before .before .before .before .before .before .before .before .before .before .before .before .before .args .new) J same (c .before .before .before .before .before .before .before .before .before .before .before .before .before .args .low) _ _ (turning-stray (listed (c .before .before .before .before .before .before .before .before .before .before .before .before .before .args .counts) (c .before .before .before .before .before .before .before .before .before .before .before .before .before .args .readers .now) T) J 64 (c .before .before .before .before .before .before .before .before .before .before .before .before .before .args .kept .now) (c .before .before .before .before .before .before .before .before .before .before .before .before .before .args .j) (bitXor (getD (c .before .before .before .before .before .before .before .before .before .before .before .before .before .args .kept .now) (candidateAt (c .before .before .before .before .before .before .before .before .before .before .before .before .before .args .counts) + 2 * c .before .before .before .before .before .before .before .before .before .before .before .before .before .args .j) 0 + getD (c .before .before .before .before .before .before .before .before .before .before .before .before .before .args .kept .now) (candidateAt (c .before .before .before .before .before .before .before .before .before .before .before .before .before .args .counts) + 2 * c .before .before .before .before .before .before .before .before .before .before .before .before .before .args .j + 1) 0 * 4294967296) (c .before .before .before .before .before .before .before .before .before .before .before .before .before .args .new)) (c .before .before .before .before .before .before .before .before .before .before .before .before .before .args .low) (c .before .before .before .before .before .before .before .before .before .before .before .before .before .pre .0 .2) _ _ _ (c .before .before .before .before .before .before .before .loop .inv .0 T J same) (c .before .before .before .before .before .before .before .loop .inv .1 .small) (c .before .before .before .before .before .before .loop-test .taken) _ _ (c .before .before .before .before .turn-atom .ensures T J (place-read _ _ _ (same _ (left-place _ _ _ _ (c .before .before .before .before .before .before .before .loop .inv .1) (c .before .before .before .before .before .before .loop-test .taken))))) (c .enum-told .given .1))
+returns c = λ T J same. pair-enters (listed (c .before .before .before .before .before .before .before .before .before .before .before .before .args .counts) (c .before .before .before .before .before .before .before .before .before .before .before .before .args .readers .now) T) (c .before .before .before .before .before .before .before .before .before .before .before .before .args .kept .now) (c .before .before .before .before .before .before .before .before .before .before .before .before .pre .0 .2) (c .before .before .before .before .before .before .before .before .before .before .before .before .args .j) (c .before .before .before .before .before .before .before .before .before .before .before .before .pre .0 .3) (omega (arith, c .before .before .before .before .before .before .before .before .before .before .slice-known .given (candidateAt (c .before .before .before .before .before .before .before .before .before .before .before .before .args .counts) + 2 * c .before .before .before .before .before .before .before .before .before .before .before .before .args .j))) (c .before .before .before .before .before .before .before .before .before .before .before .before .args .new) J same _ _ (turning-stray (listed (c .before .before .before .before .before .before .before .before .before .before .before .before .args .counts) (c .before .before .before .before .before .before .before .before .before .before .before .before .args .readers .now) T) J 64 (c .before .before .before .before .before .before .before .before .before .before .before .before .args .kept .now) (c .before .before .before .before .before .before .before .before .before .before .before .before .args .j) (bitXor (getD (c .before .before .before .before .before .before .before .before .before .before .before .before .args .kept .now) (candidateAt (c .before .before .before .before .before .before .before .before .before .before .before .before .args .counts) + 2 * c .before .before .before .before .before .before .before .before .before .before .before .before .args .j) 0 + getD (c .before .before .before .before .before .before .before .before .before .before .before .before .args .kept .now) (candidateAt (c .before .before .before .before .before .before .before .before .before .before .before .before .args .counts) + 2 * c .before .before .before .before .before .before .before .before .before .before .before .before .args .j + 1) 0 * 4294967296) (c .before .before .before .before .before .before .before .before .before .before .before .before .args .new)) (c .before .before .before .before .before .before .before .before .before .before .before .before .pre .0 .2) _ _ (c .before .before .before .before .before .before .loop .inv .0 T J same) (c .before .before .before .before .before .before .loop .inv .1 .small) (c .before .before .before .before .before .loop-test .taken) _ _ (c .before .before .before .turn-atom .ensures T J (place-read _ _ _ (same _ (left-place _ _ _ _ (c .before .before .before .before .before .before .loop .inv .1) (c .before .before .before .before .before .loop-test .taken))))) (not-true _ (c .if1 .taken)))
 
 -- src/lib.rt:144:26
 cast-x : tie.Need-cast-x Inv-loop μ-loop
-cast-x c = omega (arith, left-place _ _ _ _ (c .before .before .before .before .before .before .before .before .loop .inv .1) (c .before .before .before .before .before .before .before .loop-test .taken))
+cast-x c = omega (arith, left-place _ _ _ _ (c .before .before .before .before .before .before .loop .inv .1) (c .before .before .before .before .before .loop-test .taken))
 
 -- src/lib.rt:144:18
 shl-x : tie.Need-shl-x Inv-loop μ-loop
-shl-x c = left-place _ _ _ _ (c .before .before .before .before .before .before .before .before .loop .inv .1) (c .before .before .before .before .before .before .before .loop-test .taken)
+shl-x c = left-place _ _ _ _ (c .before .before .before .before .before .before .loop .inv .1) (c .before .before .before .before .before .loop-test .taken)
 
 -- src/lib.rt:133:5
 loop-less : tie.Need-loop-less Inv-loop μ-loop
-loop-less c = left-less _ _ _ _ (c .before .before .before .before .before .before .before .before .loop .inv .1) (c .before .before .before .before .before .before .before .loop-test .taken)
+loop-less c = left-less _ _ _ _ (c .before .before .before .before .before .before .loop .inv .1) (c .before .before .before .before .before .loop-test .taken)
 
 -- src/lib.rt:133:5
 loop-again : tie.Need-loop-again Inv-loop μ-loop
-loop-again c = (λ T J same. turning-more (listed (c .before .before .before .before .before .before .before .before .before .before .before .before .before .before .args .counts) (c .before .before .before .before .before .before .before .before .before .before .before .before .before .before .args .readers .now) T) J 64 (c .before .before .before .before .before .before .before .before .before .before .before .before .before .before .args .kept .now) (c .before .before .before .before .before .before .before .before .before .before .before .before .before .before .args .j) (bitXor (getD (c .before .before .before .before .before .before .before .before .before .before .before .before .before .before .args .kept .now) (candidateAt (c .before .before .before .before .before .before .before .before .before .before .before .before .before .before .args .counts) + 2 * c .before .before .before .before .before .before .before .before .before .before .before .before .before .before .args .j) 0 + getD (c .before .before .before .before .before .before .before .before .before .before .before .before .before .before .args .kept .now) (candidateAt (c .before .before .before .before .before .before .before .before .before .before .before .before .before .before .args .counts) + 2 * c .before .before .before .before .before .before .before .before .before .before .before .before .before .before .args .j + 1) 0 * 4294967296) (c .before .before .before .before .before .before .before .before .before .before .before .before .before .before .args .new)) (c .before .before .before .before .before .before .before .before .before .before .before .before .before .before .args .low) (c .before .before .before .before .before .before .before .before .before .before .before .before .before .before .pre .0 .2) _ _ _ (c .before .before .before .before .before .before .before .before .loop .inv .0 T J same) (c .before .before .before .before .before .before .before .before .loop .inv .1 .small) (c .before .before .before .before .before .before .before .loop-test .taken) _ _ (c .before .before .before .before .before .turn-atom .ensures T J (place-read _ _ _ (same _ (left-place _ _ _ _ (c .before .before .before .before .before .before .before .before .loop .inv .1) (c .before .before .before .before .before .before .before .loop-test .taken))))) _ (c .before .m .given .1), left-other _ _ _ _ (c .before .before .before .before .before .before .before .before .loop .inv .1) (c .before .before .before .before .before .before .before .loop-test .taken), c .before .before .before .before .before .turn-atom .kept .1 .1 .0 ∙ c .before .before .before .before .before .before .before .before .loop .inv .2)
+loop-again c = (λ T J same. turning-more (listed (c .before .before .before .before .before .before .before .before .before .before .before .before .args .counts) (c .before .before .before .before .before .before .before .before .before .before .before .before .args .readers .now) T) J 64 (c .before .before .before .before .before .before .before .before .before .before .before .before .args .kept .now) (c .before .before .before .before .before .before .before .before .before .before .before .before .args .j) (bitXor (getD (c .before .before .before .before .before .before .before .before .before .before .before .before .args .kept .now) (candidateAt (c .before .before .before .before .before .before .before .before .before .before .before .before .args .counts) + 2 * c .before .before .before .before .before .before .before .before .before .before .before .before .args .j) 0 + getD (c .before .before .before .before .before .before .before .before .before .before .before .before .args .kept .now) (candidateAt (c .before .before .before .before .before .before .before .before .before .before .before .before .args .counts) + 2 * c .before .before .before .before .before .before .before .before .before .before .before .before .args .j + 1) 0 * 4294967296) (c .before .before .before .before .before .before .before .before .before .before .before .before .args .new)) (c .before .before .before .before .before .before .before .before .before .before .before .before .pre .0 .2) _ _ (c .before .before .before .before .before .before .loop .inv .0 T J same) (c .before .before .before .before .before .before .loop .inv .1 .small) (c .before .before .before .before .before .loop-test .taken) _ _ (c .before .before .before .turn-atom .ensures T J (place-read _ _ _ (same _ (left-place _ _ _ _ (c .before .before .before .before .before .before .loop .inv .1) (c .before .before .before .before .before .loop-test .taken))))) (not-false _ (c .if1 .left)), left-other _ _ _ _ (c .before .before .before .before .before .before .loop .inv .1) (c .before .before .before .before .before .loop-test .taken), c .before .before .before .turn-atom .kept .1 .1 .0 ∙ c .before .before .before .before .before .before .loop .inv .2)
 
 -- src/lib.rt:117:1
 same-length-2 : tie.Need-same-length-2 Inv-loop μ-loop
@@ -121,7 +114,7 @@ same-length-2 c = search needs
 
 -- src/lib.rt:117:1
 returns-2 : tie.Need-returns-2 Inv-loop μ-loop
-returns-2 c = λ T J same. pair-enters (listed (c .before .before .before .before .before .before .before .args .counts) (c .before .before .before .before .before .before .before .args .readers .now) T) (c .before .before .before .before .before .before .before .args .kept .now) (c .before .before .before .before .before .before .before .pre .0 .2) (c .before .before .before .before .before .before .before .args .j) (c .before .before .before .before .before .before .before .pre .0 .3) (omega (arith, c .before .before .before .before .before .slice-known .given (candidateAt (c .before .before .before .before .before .before .before .args .counts) + 2 * c .before .before .before .before .before .before .before .args .j))) (c .before .before .before .before .before .before .before .args .new) J same (c .before .before .before .before .before .before .before .args .low) _ _ (turning-done (listed (c .before .before .before .before .before .before .before .args .counts) (c .before .before .before .before .before .before .before .args .readers .now) T) J 64 (c .before .before .before .before .before .before .before .args .kept .now) (c .before .before .before .before .before .before .before .args .j) (bitXor (getD (c .before .before .before .before .before .before .before .args .kept .now) (candidateAt (c .before .before .before .before .before .before .before .args .counts) + 2 * c .before .before .before .before .before .before .before .args .j) 0 + getD (c .before .before .before .before .before .before .before .args .kept .now) (candidateAt (c .before .before .before .before .before .before .before .args .counts) + 2 * c .before .before .before .before .before .before .before .args .j + 1) 0 * 4294967296) (c .before .before .before .before .before .before .before .args .new)) (c .before .before .before .before .before .before .before .args .low) (c .before .before .before .before .before .before .before .pre .0 .2) _ _ _ (c .before .loop .inv .0 T J same) (c .loop-test .left))
+returns-2 c = λ T J same. pair-enters (listed (c .before .before .before .before .before .before .before .args .counts) (c .before .before .before .before .before .before .before .args .readers .now) T) (c .before .before .before .before .before .before .before .args .kept .now) (c .before .before .before .before .before .before .before .pre .0 .2) (c .before .before .before .before .before .before .before .args .j) (c .before .before .before .before .before .before .before .pre .0 .3) (omega (arith, c .before .before .before .before .before .slice-known .given (candidateAt (c .before .before .before .before .before .before .before .args .counts) + 2 * c .before .before .before .before .before .before .before .args .j))) (c .before .before .before .before .before .before .before .args .new) J same _ _ (turning-done (listed (c .before .before .before .before .before .before .before .args .counts) (c .before .before .before .before .before .before .before .args .readers .now) T) J 64 (c .before .before .before .before .before .before .before .args .kept .now) (c .before .before .before .before .before .before .before .args .j) (bitXor (getD (c .before .before .before .before .before .before .before .args .kept .now) (candidateAt (c .before .before .before .before .before .before .before .args .counts) + 2 * c .before .before .before .before .before .before .before .args .j) 0 + getD (c .before .before .before .before .before .before .before .args .kept .now) (candidateAt (c .before .before .before .before .before .before .before .args .counts) + 2 * c .before .before .before .before .before .before .before .args .j + 1) 0 * 4294967296) (c .before .before .before .before .before .before .before .args .new)) (c .before .before .before .before .before .before .before .pre .0 .2) _ _ (c .before .loop .inv .0 T J same) (c .loop-test .left))
 
 pub turn-pair-spec : {M : Type 1} → statement M
 turn-pair-spec =
@@ -143,8 +136,6 @@ turn-pair-spec =
     cast-turn-atom
     shr-turn-atom
     turn-atom-requires
-    enum-known-m
-    enum-told
     same-length
     returns
     cast-x

@@ -1,3 +1,4 @@
+use Rattle.update.specs.WalkLaws.{last-within}
 use Prim.Native.Nat.{_+_, _/_}
 use mathlib.Core.Path.{refl}
 use mathlib.Core.Bool.{false}
@@ -39,7 +40,7 @@ mul-result c = search needs
 
 -- src/lib.rt:89:5
 shared-slice-read-result : tie.Need-shared-slice-read-result
-shared-slice-read-result c = search needs
+shared-slice-read-result c = last-within (c .before .before .args .counts) _ (c .before .before .pre .1) (c .before .if1 .left)
 
 -- src/lib.rt:89:18
 cast-result : tie.Need-cast-result
