@@ -14,75 +14,75 @@ use Rattle.readers.proofs.in_order.Reads as in-order-reads
 use Rattle.retained.proofs.presence.Reads as presence-reads
 use Rattle.start.proofs.enter_all.Reads as enter-all-reads
 
--- src/lib.rt:68:9
+-- src/lib.rt:51:9
 presence-requires : tie.Need-presence-requires
 presence-requires c κs = search needs
 
--- src/lib.rt:69:9
+-- src/lib.rt:52:9
 same-length : tie.Need-same-length
 same-length c = search needs
 
--- src/lib.rt:69:9
+-- src/lib.rt:52:9
 returns : tie.Need-returns
 returns c = λ T J same. turn-none (listed (c .before .before .before .before .before .before .before .args .counts) (c .before .before .before .before .before .before .before .args .readers .now) T) (c .before .before .before .before .before .before .before .args .a) J (c .before .before .before .before .before .before .before .args .x) same (c .before .before .before .before .before .before .before .args .kept .now) (c .before .before .before .before .before .before .before .pre .2) _ _ (c .before .before .before .presence .ensures (listed (c .before .before .before .before .before .before .before .args .counts) (c .before .before .before .before .before .before .before .args .readers .now) T)) (not-true _ (c .if1 .taken))
 
--- src/lib.rt:71:16
+-- src/lib.rt:54:16
 add-size : tie.Need-add-size
 add-size c = search needs
 
--- src/lib.rt:71:35
+-- src/lib.rt:54:35
 mul-size : tie.Need-mul-size
 mul-size c = search needs
 
--- src/lib.rt:71:16
+-- src/lib.rt:54:16
 add-size-2 : tie.Need-add-size-2
 add-size-2 c = search needs
 
--- src/lib.rt:71:16
+-- src/lib.rt:54:16
 add-size-3 : tie.Need-add-size-3
 add-size-3 c = search needs
 
--- src/lib.rt:71:72
+-- src/lib.rt:54:72
 mul-size-2 : tie.Need-mul-size-2
 mul-size-2 c = search needs
 
--- src/lib.rt:71:16
+-- src/lib.rt:54:16
 add-size-4 : tie.Need-add-size-4
 add-size-4 c = search needs
 
--- src/lib.rt:72:42
+-- src/lib.rt:55:42
 add-in-order : tie.Need-add-in-order
 add-in-order c = search needs
 
--- src/lib.rt:72:42
+-- src/lib.rt:55:42
 add-in-order-2 : tie.Need-add-in-order-2
 add-in-order-2 c = search needs
 
--- src/lib.rt:72:9
+-- src/lib.rt:55:9
 in-order-requires : tie.Need-in-order-requires
 in-order-requires c κs = search needs
 
--- src/lib.rt:73:9
+-- src/lib.rt:56:9
 same-length-2 : tie.Need-same-length-2
 same-length-2 c = search needs
 
--- src/lib.rt:73:9
+-- src/lib.rt:56:9
 returns-2 : tie.Need-returns-2
 returns-2 c = λ T J same. turn-disordered (listed (c .before .before .before .before .before .before .before .before .before .before .before .before .before .before .args .counts) (c .before .before .before .before .before .before .before .before .before .before .before .before .before .before .args .readers .now) T) (c .before .before .before .before .before .before .before .before .before .before .before .before .before .before .args .a) J (c .before .before .before .before .before .before .before .before .before .before .before .before .before .before .args .x) same (c .before .before .before .before .before .before .before .before .before .before .before .before .before .before .args .kept .now) (c .before .before .before .before .before .before .before .before .before .before .before .before .before .before .pre .2) _ _ (c .before .before .before .before .before .before .before .before .before .before .presence .ensures (listed (c .before .before .before .before .before .before .before .before .before .before .before .before .before .before .args .counts) (c .before .before .before .before .before .before .before .before .before .before .before .before .before .before .args .readers .now) T)) (not-false _ (c .before .before .before .before .before .before .before .if1 .left)) (sym (c .before .in-order .ensures) ∙ not-true _ (c .if2 .taken))
 
--- src/lib.rt:77:9
+-- src/lib.rt:60:9
 atom-nodes-of-requires : tie.Need-atom-nodes-of-requires
 atom-nodes-of-requires c κs = (omega (arith, c .before .before .before .before .before .before .before .before .before .before .before .before .before .before .pre .1, c .before .before .before .before .before .before .before .before .before .before .before .before .before .before .pre .3), in-order-more _ _ _ _ (c .before .before .before .before .before .before .before .before .before .before .before .before .before .before .pre .1) (in-order-true _ _ _ (sym (c .before .in-order .ensures) ∙ not-false _ (c .if2 .left))))
 
--- src/lib.rt:75:5
+-- src/lib.rt:58:5
 enter-all-requires : tie.Need-enter-all-requires
 enter-all-requires c κs = search needs
 
--- src/lib.rt:57:1
+-- src/lib.rt:47:1
 same-length-3 : tie.Need-same-length-3
 same-length-3 c = search needs
 
--- src/lib.rt:57:1
+-- src/lib.rt:47:1
 returns-3 : tie.Need-returns-3
 returns-3 c = λ T J same. turn-done (listed (c .before .before .before .before .before .before .before .before .before .before .before .before .before .before .before .before .before .before .before .args .counts) (c .before .before .before .before .before .before .before .before .before .before .before .before .before .before .before .before .before .before .before .args .readers .now) T) (c .before .before .before .before .before .before .before .before .before .before .before .before .before .before .before .before .before .before .before .args .a) J (c .before .before .before .before .before .before .before .before .before .before .before .before .before .before .before .before .before .before .before .args .x) same (c .before .before .before .before .before .before .before .before .before .before .before .before .before .before .before .before .before .before .before .args .kept .now) (c .before .before .before .before .before .before .before .before .before .before .before .before .before .before .before .before .before .before .before .pre .2) _ _ (c .before .before .before .before .before .before .before .before .before .before .before .before .before .before .before .presence .ensures (listed (c .before .before .before .before .before .before .before .before .before .before .before .before .before .before .before .before .before .before .before .args .counts) (c .before .before .before .before .before .before .before .before .before .before .before .before .before .before .before .before .before .before .before .args .readers .now) T)) (not-false _ (c .before .before .before .before .before .before .before .before .before .before .before .before .if1 .left)) (sym (c .before .before .before .before .before .before .in-order .ensures) ∙ not-false _ (c .before .before .before .before .before .if2 .left)) _ (c .before .before .before .before .atom-nodes-of .ensures) _ _ (c .before .before .enter-all .ensures (listed (c .before .before .before .before .before .before .before .before .before .before .before .before .before .before .before .before .before .before .before .args .counts) (c .before .before .before .before .before .before .before .before .before .before .before .before .before .before .before .before .before .before .before .args .readers .now) T))
 

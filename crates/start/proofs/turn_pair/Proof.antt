@@ -28,91 +28,91 @@ Inv-loop counts readers kept₀ j new n at x₀ kept x =
 abbrev μ-loop : tie.MeasureT-loop
 μ-loop counts readers kept₀ j new n at x₀ kept x = count (bit x) 0 64
 
--- src/lib.rt:130:14
+-- src/lib.rt:92:14
 add-at : tie.Need-add-at Inv-loop μ-loop
 add-at c = search needs
 
--- src/lib.rt:130:24
+-- src/lib.rt:92:23
 add-at-2 : tie.Need-add-at-2 Inv-loop μ-loop
 add-at-2 c = search needs
 
--- src/lib.rt:130:14
+-- src/lib.rt:92:14
 add-at-3 : tie.Need-add-at-3 Inv-loop μ-loop
 add-at-3 c = search needs
 
--- src/lib.rt:130:14
+-- src/lib.rt:92:14
 add-at-4 : tie.Need-add-at-4 Inv-loop μ-loop
 add-at-4 c = search needs
 
--- src/lib.rt:130:54
+-- src/lib.rt:92:53
 mul-at : tie.Need-mul-at Inv-loop μ-loop
 mul-at c = search needs
 
--- src/lib.rt:130:14
+-- src/lib.rt:92:14
 add-at-5 : tie.Need-add-at-5 Inv-loop μ-loop
 add-at-5 c = search needs
 
--- src/lib.rt:132:17
+-- src/lib.rt:93:17
 pair-requires : tie.Need-pair-requires Inv-loop μ-loop
 pair-requires c κs = search needs
 
--- src/lib.rt:133:5
+-- src/lib.rt:94:5
 loop-holds : tie.Need-loop-holds Inv-loop μ-loop
 loop-holds c = let e : c .pair .result ≡ getD (c .before .before .before .before .before .args .kept .now) (candidateAt (c .before .before .before .before .before .args .counts) + 2 * c .before .before .before .before .before .args .j) 0 + getD (c .before .before .before .before .before .args .kept .now) (candidateAt (c .before .before .before .before .before .args .counts) + 2 * c .before .before .before .before .before .args .j + 1) 0 * 4294967296 = c .pair .ensures in (λ T J same. rw e (turning-first (listed (c .before .before .before .before .before .args .counts) (c .before .before .before .before .before .args .readers .now) T) J 64 (c .before .before .before .before .before .args .kept .now) (c .before .before .before .before .before .args .j) (bitXor (getD (c .before .before .before .before .before .args .kept .now) (candidateAt (c .before .before .before .before .before .args .counts) + 2 * c .before .before .before .before .before .args .j) 0 + getD (c .before .before .before .before .before .args .kept .now) (candidateAt (c .before .before .before .before .before .args .counts) + 2 * c .before .before .before .before .before .args .j + 1) 0 * 4294967296) (c .before .before .before .before .before .args .new)) (c .before .before .before .before .before .pre .0 .2)), record { small = xor-lt 64 (c .pair .result) (c .before .before .before .before .before .args .new) (omega (arith, e, c .before .before .before .slice-known .given (candidateAt (c .before .before .before .before .before .args .counts) + 2 * c .before .before .before .before .before .args .j), c .before .before .before .slice-known .given (candidateAt (c .before .before .before .before .before .args .counts) + 2 * c .before .before .before .before .before .args .j + 1))) (c .before .before .before .before .before .fits .new .fits); within = rw e (pair-within (listed (c .before .before .before .before .before .args .counts) (c .before .before .before .before .before .args .readers .now) (bare (c .before .before .before .before .before .args .counts))) (c .before .before .before .before .before .args .kept .now) (c .before .before .before .before .before .pre .0 .2) (c .before .before .before .before .before .args .j) (c .before .before .before .before .before .pre .0 .3) (omega (arith, c .before .before .before .slice-known .given (candidateAt (c .before .before .before .before .before .args .counts) + 2 * c .before .before .before .before .before .args .j))) (c .before .before .before .before .before .args .new) (c .before .before .before .before .before .pre .1 (bare (c .before .before .before .before .before .args .counts)))) }, refl)
 
--- src/lib.rt:135:17
+-- src/lib.rt:96:17
 mul-a : tie.Need-mul-a Inv-loop μ-loop
 mul-a c = search needs
 
--- src/lib.rt:135:26
+-- src/lib.rt:96:26
 cast-a : tie.Need-cast-a Inv-loop μ-loop
 cast-a c = omega (arith, left-place _ _ _ _ (c .before .loop .inv .1) (c .loop-test .taken))
 
--- src/lib.rt:135:17
+-- src/lib.rt:96:17
 add-a : tie.Need-add-a Inv-loop μ-loop
 add-a c = omega (arith, left-atom _ _ _ _ (c .before .loop .inv .1) (c .loop-test .taken), c .before .before .before .before .before .before .before .pre .0 .0 .atoms)
 
--- src/lib.rt:136:59
+-- src/lib.rt:97:57
 cast-turn-atom : tie.Need-cast-turn-atom Inv-loop μ-loop
 cast-turn-atom c = omega (arith, left-place _ _ _ _ (c .before .before .loop .inv .1) (c .before .loop-test .taken))
 
--- src/lib.rt:136:52
+-- src/lib.rt:97:50
 shr-turn-atom : tie.Need-shr-turn-atom Inv-loop μ-loop
 shr-turn-atom c = left-place _ _ _ _ (c .before .before .loop .inv .1) (c .before .loop-test .taken)
 
--- src/lib.rt:136:15
+-- src/lib.rt:97:13
 turn-atom-requires : tie.Need-turn-atom-requires Inv-loop μ-loop
 turn-atom-requires c κs = (c .before .before .before .before .before .before .before .before .pre .0 .0, c .before .before .before .before .before .before .before .before .pre .0 .1, omega (arith, c .before .before .before .before .before .before .before .before .pre .0 .2, c .before .before .loop .inv .2), left-atom _ _ _ _ (c .before .before .loop .inv .1) (c .before .loop-test .taken))
 
--- src/lib.rt:141:17
+-- src/lib.rt:98:13
 same-length : tie.Need-same-length Inv-loop μ-loop
 same-length c = search needs
 
--- src/lib.rt:141:17
+-- src/lib.rt:98:13
 returns : tie.Need-returns Inv-loop μ-loop
 returns c = λ T J same. pair-enters (listed (c .before .before .before .before .before .before .before .before .before .before .before .before .args .counts) (c .before .before .before .before .before .before .before .before .before .before .before .before .args .readers .now) T) (c .before .before .before .before .before .before .before .before .before .before .before .before .args .kept .now) (c .before .before .before .before .before .before .before .before .before .before .before .before .pre .0 .2) (c .before .before .before .before .before .before .before .before .before .before .before .before .args .j) (c .before .before .before .before .before .before .before .before .before .before .before .before .pre .0 .3) (omega (arith, c .before .before .before .before .before .before .before .before .before .before .slice-known .given (candidateAt (c .before .before .before .before .before .before .before .before .before .before .before .before .args .counts) + 2 * c .before .before .before .before .before .before .before .before .before .before .before .before .args .j))) (c .before .before .before .before .before .before .before .before .before .before .before .before .args .new) J same _ _ (turning-stray (listed (c .before .before .before .before .before .before .before .before .before .before .before .before .args .counts) (c .before .before .before .before .before .before .before .before .before .before .before .before .args .readers .now) T) J 64 (c .before .before .before .before .before .before .before .before .before .before .before .before .args .kept .now) (c .before .before .before .before .before .before .before .before .before .before .before .before .args .j) (bitXor (getD (c .before .before .before .before .before .before .before .before .before .before .before .before .args .kept .now) (candidateAt (c .before .before .before .before .before .before .before .before .before .before .before .before .args .counts) + 2 * c .before .before .before .before .before .before .before .before .before .before .before .before .args .j) 0 + getD (c .before .before .before .before .before .before .before .before .before .before .before .before .args .kept .now) (candidateAt (c .before .before .before .before .before .before .before .before .before .before .before .before .args .counts) + 2 * c .before .before .before .before .before .before .before .before .before .before .before .before .args .j + 1) 0 * 4294967296) (c .before .before .before .before .before .before .before .before .before .before .before .before .args .new)) (c .before .before .before .before .before .before .before .before .before .before .before .before .pre .0 .2) _ _ (c .before .before .before .before .before .before .loop .inv .0 T J same) (c .before .before .before .before .before .before .loop .inv .1 .small) (c .before .before .before .before .before .loop-test .taken) _ _ (c .before .before .before .turn-atom .ensures T J (place-read _ _ _ (same _ (left-place _ _ _ _ (c .before .before .before .before .before .before .loop .inv .1) (c .before .before .before .before .before .loop-test .taken))))) (not-true _ (c .if1 .taken)))
 
--- src/lib.rt:144:26
+-- src/lib.rt:100:26
 cast-x : tie.Need-cast-x Inv-loop μ-loop
 cast-x c = omega (arith, left-place _ _ _ _ (c .before .before .before .before .before .before .loop .inv .1) (c .before .before .before .before .before .loop-test .taken))
 
--- src/lib.rt:144:18
+-- src/lib.rt:100:18
 shl-x : tie.Need-shl-x Inv-loop μ-loop
 shl-x c = left-place _ _ _ _ (c .before .before .before .before .before .before .loop .inv .1) (c .before .before .before .before .before .loop-test .taken)
 
--- src/lib.rt:133:5
+-- src/lib.rt:94:5
 loop-less : tie.Need-loop-less Inv-loop μ-loop
 loop-less c = left-less _ _ _ _ (c .before .before .before .before .before .before .loop .inv .1) (c .before .before .before .before .before .loop-test .taken)
 
--- src/lib.rt:133:5
+-- src/lib.rt:94:5
 loop-again : tie.Need-loop-again Inv-loop μ-loop
 loop-again c = (λ T J same. turning-more (listed (c .before .before .before .before .before .before .before .before .before .before .before .before .args .counts) (c .before .before .before .before .before .before .before .before .before .before .before .before .args .readers .now) T) J 64 (c .before .before .before .before .before .before .before .before .before .before .before .before .args .kept .now) (c .before .before .before .before .before .before .before .before .before .before .before .before .args .j) (bitXor (getD (c .before .before .before .before .before .before .before .before .before .before .before .before .args .kept .now) (candidateAt (c .before .before .before .before .before .before .before .before .before .before .before .before .args .counts) + 2 * c .before .before .before .before .before .before .before .before .before .before .before .before .args .j) 0 + getD (c .before .before .before .before .before .before .before .before .before .before .before .before .args .kept .now) (candidateAt (c .before .before .before .before .before .before .before .before .before .before .before .before .args .counts) + 2 * c .before .before .before .before .before .before .before .before .before .before .before .before .args .j + 1) 0 * 4294967296) (c .before .before .before .before .before .before .before .before .before .before .before .before .args .new)) (c .before .before .before .before .before .before .before .before .before .before .before .before .pre .0 .2) _ _ (c .before .before .before .before .before .before .loop .inv .0 T J same) (c .before .before .before .before .before .before .loop .inv .1 .small) (c .before .before .before .before .before .loop-test .taken) _ _ (c .before .before .before .turn-atom .ensures T J (place-read _ _ _ (same _ (left-place _ _ _ _ (c .before .before .before .before .before .before .loop .inv .1) (c .before .before .before .before .before .loop-test .taken))))) (not-false _ (c .if1 .left)), left-other _ _ _ _ (c .before .before .before .before .before .before .loop .inv .1) (c .before .before .before .before .before .loop-test .taken), c .before .before .before .turn-atom .kept .1 .1 .0 ∙ c .before .before .before .before .before .before .loop .inv .2)
 
--- src/lib.rt:117:1
+-- src/lib.rt:86:1
 same-length-2 : tie.Need-same-length-2 Inv-loop μ-loop
 same-length-2 c = search needs
 
--- src/lib.rt:117:1
+-- src/lib.rt:86:1
 returns-2 : tie.Need-returns-2 Inv-loop μ-loop
 returns-2 c = λ T J same. pair-enters (listed (c .before .before .before .before .before .before .before .args .counts) (c .before .before .before .before .before .before .before .args .readers .now) T) (c .before .before .before .before .before .before .before .args .kept .now) (c .before .before .before .before .before .before .before .pre .0 .2) (c .before .before .before .before .before .before .before .args .j) (c .before .before .before .before .before .before .before .pre .0 .3) (omega (arith, c .before .before .before .before .before .slice-known .given (candidateAt (c .before .before .before .before .before .before .before .args .counts) + 2 * c .before .before .before .before .before .before .before .args .j))) (c .before .before .before .before .before .before .before .args .new) J same _ _ (turning-done (listed (c .before .before .before .before .before .before .before .args .counts) (c .before .before .before .before .before .before .before .args .readers .now) T) J 64 (c .before .before .before .before .before .before .before .args .kept .now) (c .before .before .before .before .before .before .before .args .j) (bitXor (getD (c .before .before .before .before .before .before .before .args .kept .now) (candidateAt (c .before .before .before .before .before .before .before .args .counts) + 2 * c .before .before .before .before .before .before .before .args .j) 0 + getD (c .before .before .before .before .before .before .before .args .kept .now) (candidateAt (c .before .before .before .before .before .before .before .args .counts) + 2 * c .before .before .before .before .before .before .before .args .j + 1) 0 * 4294967296) (c .before .before .before .before .before .before .before .args .new)) (c .before .before .before .before .before .before .before .pre .0 .2) _ _ (c .before .loop .inv .0 T J same) (c .loop-test .left))
 
