@@ -10,8 +10,6 @@ use Rattle.kept.specs.CountedSet.{andThen, withBit, withMember}
 use Rattle.kept.specs.Worklist.{behind, advance, withoutFirst}
 use Rattle.kept.specs.Tables.{Tables, atomCount, nodeCount}
 use Rattle.kept.specs.Evaluation.{Evaluation}
-use Rattle.retained.specs.declared.Count.{Count}
-use Rattle.retained.specs.declared.Count.the-variants.{Now, Astray}
 use Rattle.kept.specs.Parts.{withWorklist, withSupport, withCandidate}
 
 -- node m behind the first of the worklist
@@ -34,7 +32,3 @@ missingTurned T a x e = andThen (withMember (atomCount T) (e .missing) a x) (λ 
 unfoldable pub presenceTurned : Tables → ℕ → Bool → Evaluation → Option Evaluation
 presenceTurned T a x e =
     andThen (withMember (atomCount T) (e .missing) a (x && eqb (getD (e .support) a 0) 0)) (λ m. some (withCandidate e (withBit (e .candidate) a x) m))
-
-abbrev pub countOf : Count → Option ℕ
-countOf (Now n) = some n
-countOf Astray = none

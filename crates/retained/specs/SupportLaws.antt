@@ -1,15 +1,15 @@
 -- An atom's support: its count one up or down, then whether it is missing.
 -- Assumes nothing.
-use Prim.Native.Nat.{ℕ, zero, suc, _<_, _≤_, _+_}
+use Prim.Native.Nat.{ℕ, _<_, _≤_, _+_, _-_}
 use native.Mathlib.Omega.{arith}
 use mathlib.Core.Path.{_≡_, refl, ap, sym, _∙_}
-use mathlib.Core.Logic.{_⊎_, inl, inr}
-use mathlib.Core.Bool.{Bool, true, false, cond, _&&_}
+use mathlib.Core.Bool.{Bool, true, false, _&&_, and-false}
 use mathlib.Core.List.{List}
 use mathlib.Core.Option.{Option, some, none}
-use lib.Dec.{eqb, ltb}
+use lib.Dec.{eqb}
 use lib.ListN.{length, getD, set}
-use borrow.Author.Tests.{ltb-true}
+use borrow.Author.Tests.{ne-eqb}
+use Rattle.base.specs.Tests.{and-true}
 use Rattle.kept.specs.CountedSet.{moved}
 use Rattle.kept.specs.Tables.{Tables, atomCount}
 use Rattle.kept.specs.Evaluation.{Evaluation, present}
@@ -23,17 +23,6 @@ use Rattle.node_truth.specs.InWords.{presentIn}
 use Rattle.node_truth.specs.InWordsLaws.{present-in}
 use Rattle.retained.specs.Changes.{missingTurned}
 use Rattle.retained.specs.PresenceLaws.{missing-fits, missing-turned, missing-not}
-
--- a count that was moved is at most the most, or lower than it was
-pub moved-small : (most : ℕ) (t : Bool) (n m : ℕ) → moved most t n ≡ some m → (m ≤ most) ⊎ (m < n)
-unfolding moved
-moved-small most true n m e = go (ltb n most) refl e
-  where
-    go : (b : Bool) → ltb n most ≡ b → cond b (some (suc n)) none ≡ some m → (m ≤ most) ⊎ (m < n)
-    go true p h = let q : suc n ≡ m = cc in inl (omega (arith, ltb-true n most p))
-    go false p h = let z : _≡_ {A = ℕ} 0 1 = cc in absurd (omega arith)
-moved-small most false zero m e = let z : _≡_ {A = ℕ} 0 1 = cc in absurd (omega arith)
-moved-small most false (suc n) m e = let q : n ≡ m = cc in inr (omega arith)
 
 module _ (T : Tables) (ws : List ℕ) (long : used T ≤ length ws) (a : ℕ) (l : a < atomCount T) (t : Bool) where
   abbrev e : Evaluation
@@ -69,9 +58,13 @@ module _ (T : Tables) (ws : List ℕ) (long : used T ≤ length ws) (a : ℕ) (l
         (ap (λ x. set x (supportStart T + a) n) put
         ∙ put-support T ws long (withSupport e (e .support) (m .0)) (missing-fits T e a lacking (m .0) (m .1) (fits-of T ws long)) a n l)
 
--- as the code finds it
-pub lacking-both : (p x : Bool) (n : ℕ) (lacking : Bool) → p ≡ x → x ≡ true → lacking ≡ eqb n 0 → lacking ≡ p && eqb n 0
-lacking-both p x n lacking q r h = h ∙ ap (λ b. b && eqb n 0) (sym (q ∙ r))
+-- an atom that gains a producer is not missing
+pub gained : (p : Bool) (n : ℕ) → false ≡ p && eqb (n + 1) 0
+gained p n = sym (rw (ne-eqb (n + 1) 0 (λ z. omega arith)) (and-false p))
 
-pub lacking-either : (p x : Bool) (n : ℕ) (lacking : Bool) → p ≡ x → x ≡ false → lacking ≡ x → lacking ≡ p && eqb n 0
-lacking-either p x n lacking q r h = h ∙ r ∙ ap (λ b. b && eqb n 0) (sym (q ∙ r))
+-- one that loses a producer is, if it was the last and the atom is in the candidate
+pub deserted-not : (p : Bool) (n : ℕ) → (n ≡ 1 → ⊥) → 0 < n → false ≡ p && eqb (n - 1) 0
+deserted-not p n h l = sym (rw (ne-eqb (n - 1) 0 (λ z. omega (arith, h, z))) (and-false p))
+
+pub deserted-by : (p x : Bool) (n : ℕ) → n ≡ 1 → x ≡ p → x ≡ p && eqb (n - 1) 0
+deserted-by p x n e h = rw e (h ∙ sym (and-true p))

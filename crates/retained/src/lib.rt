@@ -1,29 +1,23 @@
 // Changes of a kept evaluation in its lent words: `queue`, `presence`, `support` and `root` of tight/evaluate.rs. Each that can fail answers false where a count would leave its range.
 ghost use mathlib.Core.Path.{_≡_};
-ghost use mathlib.Core.Bool.{true, false, cond};
-ghost use Prim.Native.Nat.{_+_, _*_, _/_, _<_, _≤_};
-ghost use lib.Dec.{ltb};
+ghost use mathlib.Core.Bool.{true, false, cond, _&&_};
+ghost use Prim.Native.Nat.{_+_, _-_, _*_, _/_, _<_, _≤_};
+ghost use lib.Dec.{eqb, ltb};
 ghost use lib.ListN.{length, getD, set};
 ghost use Rattle.theory.specs.Limits.{Limited};
 ghost use Rattle.words.specs.Next.{next};
 ghost use Rattle.kept.specs.SetOf.{words32};
-ghost use Rattle.kept.specs.CountedSet.{moved};
 ghost use Rattle.kept.specs.Tables.{Tables};
 ghost use Rattle.kept.specs.Layout.{ofWords};
 ghost use Rattle.kept.specs.Step.{entered, supportMoved, rootTurned};
 ghost use Rattle.kept_laws.specs.Given.{groupsAt, usedBy, sized, supplied};
 ghost use Rattle.kept_laws.specs.Halves.{half};
 ghost use Rattle.kept_laws.specs.Wrote.{Wrote};
+ghost use Rattle.node_truth.specs.InWords.{presentIn};
 ghost use Rattle.retained.specs.Member.{Put, bitPut, memberPut};
-ghost use Rattle.retained.specs.Changes.{countOf, missingTurned, presenceTurned, waiting, advancedTo, dequeued};
+ghost use Rattle.retained.specs.Changes.{missingTurned, presenceTurned, waiting, advancedTo, dequeued};
 ghost use Rattle.retained.specs.Groups.{regrouped};
 use theory::Counts;
-
-// A count after a change. Astray: it would have left its range.
-pub enum Count {
-    Now(usize),
-    Astray,
-}
 
 // i becomes a member of the set whose words begin at `at` and whose count, `most` at most, is word `size`.
 pub fn include(kept: &mut [u32], at: usize, size: usize, most: usize, i: usize) -> bool
@@ -235,21 +229,52 @@ fn mark(kept: &mut [u32], at: usize, i: usize, x: bool)
     }
 }
 
-// The count n of producers with a true body, one up or one down, within 0 and `made`.
-fn counted(n: usize, made: usize, holds: bool) -> Count
-    ensures { λ r. ⌜ countOf r ≡ moved made holds n ⌝ }
+// One producer more of atom a has a true body: it is not missing.
+fn gain(counts: Counts, made: usize, kept: &mut [u32], a: usize) -> bool
+    requires { ⌜ Limited counts × (made ≤ counts .roots) × (a < counts .atoms) × (usedBy counts ≤ length (now kept)) ⌝ }
+    ensures { λ r. ⌜ ((T : Tables) → Wrote (supplied counts made T) (now (kept .entry)) (supportMoved (supplied counts made T) true a (ofWords (supplied counts made T) (now (kept .entry)))) r (now (kept .exit))) ⌝ }
 {
-    if holds {
-        if n < made {
-            Count::Now(n + 1)
-        } else {
-            Count::Astray
-        }
-    } else if n == 0 {
-        Count::Astray
-    } else {
-        Count::Now(n - 1)
+    let n = counts.nodes;
+    let at = 8 + n + (n + 31) / 32 + a;
+    let before = words::word(kept, at);
+    if before >= made {
+        return false;
     }
+    if !missing(counts, kept, a, false) {
+        return false;
+    }
+    kept[at] = (before + 1) as u32;
+    true
+}
+
+// Whether atom a is missing once one of its producers, `before` in number, has lost its body.
+fn deserted(counts: Counts, kept: &[u32], a: usize, before: usize) -> bool
+    requires { ⌜ Limited counts × (a < counts .atoms) × (usedBy counts ≤ length (now kept)) × (0 < before) ⌝ }
+    ensures { λ r. ⌜ r ≡ presentIn counts (now (kept .entry)) a && eqb (before - 1) 0 ⌝ }
+{
+    if before != 1 {
+        return false;
+    }
+    node_truth::present(counts, kept, a)
+}
+
+// One producer less.
+fn lose(counts: Counts, kept: &mut [u32], a: usize) -> bool
+    requires { ⌜ Limited counts × (a < counts .atoms) × (usedBy counts ≤ length (now kept)) ⌝ }
+    ensures { λ r. ⌜ ((T : Tables) → Wrote (sized counts T) (now (kept .entry)) (supportMoved (sized counts T) false a (ofWords (sized counts T) (now (kept .entry)))) r (now (kept .exit))) ⌝ }
+{
+    let n = counts.nodes;
+    let at = 8 + n + (n + 31) / 32 + a;
+    let before = words::word(kept, at);
+    if before == 0 {
+        return false;
+    }
+    let lacking = deserted(counts, kept, a, before);
+    if !missing(counts, kept, a, lacking) {
+        return false;
+    }
+    kept[at] = (before - 1) as u32;
+    true
 }
 
 // The body of a producer of atom a has become true or false.
@@ -257,19 +282,10 @@ pub fn support(counts: Counts, made: usize, kept: &mut [u32], a: usize, holds: b
     requires { ⌜ Limited counts × (made ≤ counts .roots) × (a < counts .atoms) × (usedBy counts ≤ length (now kept)) ⌝ }
     ensures { λ r. ⌜ ((T : Tables) → Wrote (supplied counts made T) (now (kept .entry)) (supportMoved (supplied counts made T) holds a (ofWords (supplied counts made T) (now (kept .entry)))) r (now (kept .exit))) ⌝ }
 {
-    let n = counts.nodes;
-    let at = 8 + n + (n + 31) / 32 + a;
-    let before = words::word(kept, at);
-    match counted(before, made, holds) {
-        Count::Astray => false,
-        Count::Now(m) => {
-            let present = node_truth::present(counts, kept, a);
-            if !missing(counts, kept, a, present && m == 0) {
-                return false;
-            }
-            kept[at] = m as u32;
-            true
-        }
+    if holds {
+        gain(counts, made, kept, a)
+    } else {
+        lose(counts, kept, a)
     }
 }
 
