@@ -14,11 +14,10 @@ use Rattle.kept.specs.Tabulate.{updated, updated-here, updated-there, up
 use Rattle.kept.specs.SetOfLaws.{member-below, setOf-agree}
 use Rattle.kept.specs.CountedSet.{andThen, withBit, withMember, moved}
 use Rattle.kept.specs.CountedSetLaws.{counted-agree, bit-set, member-set}
-use Rattle.kept.specs.Worklist.{withNode}
 use Rattle.kept.specs.WorklistLaws.{worklist-same, node-entered}
 use Rattle.kept.specs.Tables.{Tables, atomCount, nodeCount, rootCount, headAt}
 use Rattle.kept.specs.Evaluation.{Evaluation, truthAt, present, truthWord, held}
-use Rattle.kept.specs.Parts.{withTruths, withWorklist, withSupport, withCandidate, withFalseRoots}
+use Rattle.kept.specs.Parts.{withTruths, withSupport, withCandidate, withFalseRoots}
 use Rattle.kept.specs.Step.{entered, supportMoved, rootTurned, readerUpdated, readersUpdated}
 
 module _ (T : Tables) where

@@ -1,18 +1,18 @@
 -- The start of the walk, from the evaluation of one candidate to another, and the kept walk whole.
 -- Assumes nothing.
-use Prim.Native.Nat.{ℕ, zero, suc, _<_, _≤_, _+_, _-_, _*_}
+use Prim.Native.Nat.{ℕ, zero, suc, _<_, _≤_, _-_, _*_}
 use native.Mathlib.Omega.{arith}
 use native.Mathlib.Nat.{zero-add}
 use mathlib.Core.Path.{_≡_, refl, ap, sym, _∙_}
 use mathlib.Core.Logic.{⊎-elim}
-use mathlib.Core.Bool.{Bool, true, false, cond, true≢false, _&&_, _||_, or-false, or-true, and-false}
+use mathlib.Core.Bool.{Bool, true, false, cond, _&&_, _||_, or-false, or-true, and-false}
 use mathlib.Core.List.{List, [], _∷_, _++_}
 use mathlib.Core.Option.{Option, some, none}
 use lib.Dec.{ltb}
 use lib.ListN.{length}
-use borrow.Author.Tests.{eq-eqb, ne-eqb, ltb-true, ltb-false, lt-ltb, le-ltb}
+use borrow.Author.Tests.{eq-eqb, ne-eqb, lt-ltb, le-ltb}
 use Rattle.base.specs.Tests.{equal-or, and-true}
-use Rattle.base.specs.Places.{places, places-yes, places-no, lowest, lowest-only}
+use Rattle.base.specs.Places.{places, lowest, lowest-only}
 use Rattle.formula.specs.Satisfaction.{Interpretation}
 use Rattle.theory.specs.Node.{nodeAt}
 use Rattle.theory.specs.declared.Node.{Node}

@@ -4,13 +4,12 @@ use Prim.Native.Nat.{ℕ, zero, suc, _+_, _-_, _<_, _≤_}
 use native.Mathlib.Numerals.{add-one}
 use native.Mathlib.Omega.{arith}
 use mathlib.Core.Path.{_≡_, refl, ap, _∙_}
-use mathlib.Core.Bool.{Bool, true, false}
+use mathlib.Core.Bool.{true, false}
 use mathlib.Core.Option.{some, none}
 use borrow.Author.Tests.{eq-eqb, ne-eqb, lt-ltb, le-ltb}
 use Rattle.words.specs.Next.{next}
 use Rattle.kept.specs.CountedSet.{CountedSet, moved, empty, astray, at, lookup}
 use Rattle.kept.specs.Evaluation.{Evaluation}
-use Rattle.kept.specs.Worklist.{withoutFirst}
 use Rattle.kept.specs.Step.{fault, idle, seen, stepAt, step}
 use Rattle.kept.specs.Tables.{Tables, nodeCount}
 
@@ -63,7 +62,3 @@ module _ (T : Tables) (e : Evaluation) where
   pub step-unseen : (k : ℕ) → e .worklist .first ≡ k → k < nodeCount T → seen T e k ≡ none → step T e ≡ fault k
   unfolding step stepAt
   step-unseen k h l s = ap (stepAt T e) h ∙ rw (lt-ltb k (nodeCount T) l, s)
-
-  pub step-stuck : (k : ℕ) (t : Bool) → e .worklist .first ≡ k → k < nodeCount T → seen T e k ≡ some t → withoutFirst (nodeCount T) (e .worklist) ≡ none → step T e ≡ fault 0
-  unfolding step stepAt
-  step-stuck k t h l s o = ap (stepAt T e) h ∙ rw (lt-ltb k (nodeCount T) l, s, o)

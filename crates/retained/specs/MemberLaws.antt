@@ -15,7 +15,7 @@ use Rattle.words.specs.Changed.{unlike}
 use Rattle.words.specs.Sets.{member, inserted, removed}
 use Rattle.kept.specs.CountedSet.{andThen, CountedSet, moved, withBit, withMember}
 use Rattle.kept.specs.CountedSetLaws.{unlike-same}
-use Rattle.kept.specs.Tables.{Tables, atomCount, nodeCount, rootCount}
+use Rattle.kept.specs.Tables.{Tables, atomCount, rootCount}
 use Rattle.kept.specs.Evaluation.{Evaluation}
 use Rattle.kept.specs.Parts.{withSupport, withFalseRoots}
 use Rattle.kept.specs.Step.{rootTurned}

@@ -4,7 +4,7 @@ use Prim.Native.Nat.{ℕ, _<_, _≤_, _+_, _-_, _*_, _/_, _%_, _^_}
 use native.Mathlib.Omega.{arith}
 use mathlib.Core.Path.{_≡_, refl, ap, sym, _∙_}
 use mathlib.Core.Logic.{⊎-elim}
-use mathlib.Core.Bool.{Bool, true, false, not, cond, _&&_}
+use mathlib.Core.Bool.{Bool, true, false, not, cond}
 use mathlib.Core.List.{List}
 use mathlib.Core.Option.{Option, some, none}
 use lib.Bits.{bitXor}
@@ -30,9 +30,9 @@ use Rattle.kept.specs.Layout.{ofWords, written, worklistStart, groupsStart, use
 use Rattle.kept.specs.LayoutLaws.{Fits, fits-of}
 use Rattle.kept_laws.specs.OptionLaws.{some-is, then-some}
 use Rattle.kept_laws.specs.Stores.{withMembers, withOthers, withGroups}
-use Rattle.kept_laws.specs.FitsLaws.{Alike, worklist-fits, length-members}
+use Rattle.kept_laws.specs.FitsLaws.{worklist-fits, length-members}
 use Rattle.kept_laws.specs.Written.{written-same, of-written, length-written, put-worklist, put-worklist-size, put-first, put-groups, get-worklist, get-worklist-size, get-first, get-groups, part-groups}
-use Rattle.kept_laws.specs.Wrote.{Wrote, beside-same, wrote-same, wrote-some, wrote-none, wrote-true, wrote-false, wrote-then, mid-holds}
+use Rattle.kept_laws.specs.Wrote.{Wrote, beside-same, wrote-some, wrote-none, wrote-true, wrote-false, wrote-then, mid-holds}
 use Rattle.retained.specs.Member.{digitPut, bitPut, memberPut, Put}
 use Rattle.retained.specs.MemberLaws.{put-wrote}
 use Rattle.retained.specs.Changes.{waiting, advancedTo, dequeued}

@@ -1,6 +1,6 @@
 -- A set digit of a word is taken off by turning it.
 -- Assumes nothing.
-use Prim.Native.Nat.{ℕ, zero, suc, _<_, _+_, _*_, _/_, _%_, _^_}
+use Prim.Native.Nat.{ℕ, zero, suc, _<_, _*_, _/_, _%_, _^_}
 use native.Mathlib.Nat.{div-add-mod', div-one, one-mul, max-zero}
 use native.Mathlib.Numerals.{one-add}
 use native.Mathlib.Omega.{arith}

@@ -1,10 +1,9 @@
-use Rattle.kept_laws.specs.Given.{bare, sized}
+use Rattle.kept_laws.specs.Given.{sized}
 use Rattle.update.specs.WalkLaws.{not-stray, update-stray, update-fault, update-walk}
 use Rattle.kept_laws.specs.OptionLaws.{not-true, not-false}
 use Rattle.update.specs.Results.{lent}
 use Rattle.words.specs.Sets.{member}
 use mathlib.Core.Path.{sym, _∙_}
-use native.Mathlib.Omega.{arith}
 use borrow.Author.Needs.{needs}
 use Rattle.update.proofs.update.Statement.{statement}
 use Rattle.update.proofs.update.Tie as tie
