@@ -246,15 +246,17 @@ pub fn certify(
     answer
 }
 
-/// `tight_check`: checks a candidate; `kept` holds the evaluation from one check to the next.
+/// `tight_check`: checks a candidate; `kept` holds the evaluation from one check to the next. The
+/// answer is written where the caller wants it: a copy would wait for the stores just made.
+#[inline]
 pub fn check(
     counts: Counts,
     tables: Tables<'_>,
     lent: Lent<'_>,
     candidate: CandidateWords<'_>,
     kept: &mut [u32],
-) -> Answer {
-    let mut answer = [0; 4];
+    answer: &mut Answer,
+) {
     // SAFETY: as in `plan`.
     unsafe {
         tight_check(
@@ -284,7 +286,6 @@ pub fn check(
             answer.len(),
         );
     }
-    answer
 }
 
 /// List number `slot` of a reader table: slots are the nodes, one unused, then the atoms.

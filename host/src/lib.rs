@@ -394,7 +394,8 @@ impl Checker<'_> {
             ref readers,
             ..
         } = *self.plan;
-        Check::of_answer(call::check(
+        let mut answer = [0; 4];
+        call::check(
             theory.counts(),
             theory.tables(),
             call::Lent {
@@ -408,7 +409,9 @@ impl Checker<'_> {
                 words: &candidate.words,
             },
             &mut self.kept,
-        ))
+            &mut answer,
+        );
+        Check::of_answer(answer)
     }
 
     /// The kept evaluation's words.
