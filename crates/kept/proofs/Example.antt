@@ -34,7 +34,7 @@ use Rattle.readers.specs.AtomNodes.{atomNodesOf}
 use Rattle.kept.specs.Tabulate.{tabulate}
 use Rattle.kept.specs.SetOf.{setOf, allInserted}
 use Rattle.kept.specs.CountedSet.{countedSet, moved, withBit, withMember, lookup}
-use Rattle.kept.specs.Worklist.{behind, withNode, filled, advanced, advance, withoutFirst, butLowest, worklistOf}
+use Rattle.kept.specs.Worklist.{behind, alone, withNode, filled, advanced, advance, withoutFirst, butLowest, worklistOf}
 use Rattle.kept.specs.Tables.{Tables, operandsAt, between, listAt}
 use Rattle.kept.specs.Evaluation.{held, truth, bodyTrue, supports, support, falseRoot, summary, fresh}
 use Rattle.kept.specs.Verdict.{notModel, residual, stable, missingAtom, verdict, judged, verdictOf}
@@ -89,13 +89,19 @@ spoilt = (1 ∷ 7 ∷ 0 ∷ 1 ∷ 0 ∷ 6 ∷ 0 ∷ 0 ∷ []) ++ ((0 ∷ 0 ∷ 1
 astray : List ℕ
 astray = (1 ∷ 7 ∷ 0 ∷ 0 ∷ 1 ∷ 2 ∷ 0 ∷ 0 ∷ []) ++ ((0 ∷ 0 ∷ 1 ∷ 0 ∷ 1 ∷ 1 ∷ []) ++ (512 ∷ 1 ∷ 0 ∷ 0 ∷ 0 ∷ 0 ∷ 1 ∷ []) ++ replicate 15 0 ++ (9 ∷ []))
 
--- C1 to C4, with refusals 15, 16 and 9 among them; and 17, after which every listed word is 0
+-- held words whose worklist has 9 of 6 as its first
+beyond : List ℕ
+beyond = (1 ∷ 7 ∷ 0 ∷ 0 ∷ 0 ∷ 9 ∷ 0 ∷ 0 ∷ []) ++ ((0 ∷ 0 ∷ 1 ∷ 0 ∷ 1 ∷ 1 ∷ []) ++ (0 ∷ 1 ∷ 0 ∷ 0 ∷ 0 ∷ 0 ∷ 0 ∷ []) ++ replicate 15 0 ++ (9 ∷ []))
+
+-- C1 to C4, with refusals 15, 16 and 9 among them; and 17, after which every listed word is 0: of `beyond` if no atom changed, and if a node enters
 example : (shown
     ≡ accepted (residual 1) 6 ∷ refused ForeignStamp ∷ accepted stable 4 ∷ refused (StrayBit 2) ∷ accepted (notModel 2) 2 ∷ refused (ShortBuffer 0) ∷ accepted stable 4 ∷ accepted stable 0 ∷ [])
     × (outcome 64 8 exampleTables (of 7 0) spoilt ≡ record { answer = refused (BadEntry 0); words = replicate 36 0 ++ (9 ∷ []) })
     × (outcome 64 8 exampleTables (of 7 0) astray ≡ record { answer = refused (BadEntry 0); words = replicate 36 0 ++ (9 ∷ []) })
-unfolding shown spoilt astray lines of exampleTables outcome outcomeAt tests limitsOf firstShort stamps strayBit atomsOf cleared written ofWords image flat cut result isKept changes keptResult freshResult tablesAdmission nodeEntry producerEntry rootEntry firstRefusal keptWalk walkStart atomUpdated atomTurned allEntered walk step stepAt seen seenBy nodeSeen groupSeen settled readersUpdated readerUpdated rootTurned supportMoved entered behind withNode filled advanced advance withoutFirst butLowest worklistOf verdict judged verdictOf missingAtom held truth bodyTrue supports support falseRoot summary fresh operandsAt between listAt readingOf setOf allInserted countedSet moved withBit withMember lookup tabulate member inserted removed next bit places count lowest nodeAt span operandsOf nodeTruth nodeTruths allTrue anyTrue allBelow rising extended
-example = (refl, refl, refl)
+    × (outcome 64 8 exampleTables (of 7 0) beyond ≡ record { answer = refused (BadEntry 0); words = replicate 36 0 ++ (9 ∷ []) })
+    × (outcome 64 8 exampleTables (of 7 1) beyond ≡ record { answer = refused (BadEntry 0); words = replicate 36 0 ++ (9 ∷ []) })
+unfolding shown spoilt astray beyond lines of exampleTables outcome outcomeAt tests limitsOf firstShort stamps strayBit atomsOf cleared written ofWords image flat cut result isKept changes keptResult freshResult tablesAdmission nodeEntry producerEntry rootEntry firstRefusal keptWalk walkStart atomUpdated atomTurned allEntered walk step stepAt seen seenBy nodeSeen groupSeen settled readersUpdated readerUpdated rootTurned supportMoved entered behind alone withNode filled advanced advance withoutFirst butLowest worklistOf verdict judged verdictOf missingAtom held truth bodyTrue supports support falseRoot summary fresh operandsAt between listAt readingOf setOf allInserted countedSet moved withBit withMember lookup tabulate member inserted removed next bit places count lowest nodeAt span operandsOf nodeTruth nodeTruths allTrue anyTrue allBelow rising extended
+example = (refl, refl, refl, refl, refl)
 
 -- the thresholds of 512 and 520 atoms
 thresholds : (max 64 (512 / 8) ≡ 64) × (max 64 (520 / 8) ≡ 65)

@@ -29,11 +29,15 @@ unfoldable pub behind : ℕ → Worklist → ℕ → Option Worklist
 behind n w m =
     andThen (withMember n (w .others) m true) (λ o. some (record { first = w .first; others = o; groups = inserted 32 (w .groups) (m / 32) }))
 
+-- node m where none waits; none: the first points past the number of nodes
+unfoldable pub alone : ℕ → Worklist → ℕ → Option Worklist
+alone n w m = cond (eqb (w .first) n) (some (withFirst w m)) none
+
 -- the lower of m and the first comes first
 unfoldable pub withNode : ℕ → Worklist → ℕ → Option Worklist
 withNode n w m =
     cond (ltb (w .first) m) (behind n w m)
-    (cond (eqb m (w .first)) (some w) (cond (ltb (w .first) n) (behind n (withFirst w m) (w .first)) (some (withFirst w m))))
+    (cond (eqb m (w .first)) (some w) (cond (ltb (w .first) n) (behind n (withFirst w m) (w .first)) (alone n w m)))
 
 -- ---- the first leaves
 

@@ -25,7 +25,7 @@ use Rattle.kept.specs.SetOf.{words32, setOf}
 use Rattle.kept.specs.SetOfLaws.{small-setOf, member-setOf, member-below, setOf-agree, setOf-inserted, setOf-removed, next-found}
 use Rattle.kept.specs.CountedSet.{countedSet, withBit}
 use Rattle.kept.specs.CountedSetLaws.{count-more, count-zero, counted-agree, bit-set, member-set}
-use Rattle.kept.specs.Worklist.{Worklist, behind, withNode, filled, advanced, advance, withoutFirst, butLowest, worklistOf}
+use Rattle.kept.specs.Worklist.{Worklist, behind, alone, withNode, filled, advanced, advance, withoutFirst, butLowest, worklistOf}
 
 -- ---- a worklist by its first node and the test of the others
 
@@ -173,7 +173,7 @@ module _ (w : ℕ → Bool) (n m f : ℕ) (r : ℕ → Bool) (l : m < n) (lf : L
   none-left a j i = hr j ∙ rw (lf .before j (omega arith) (omega arith))
 
   enters : withNode n (listed f r n) m ≡ some (worklistOf (updated w m true) n)
-  unfolding withNode listed
+  unfolding withNode alone listed
   enters = ⊎-elim below past (below-or f m)
     where
       below : f < m → withNode n (listed f r n) m ≡ some (worklistOf (updated w m true) n)
@@ -187,7 +187,7 @@ module _ (w : ℕ → Bool) (n m f : ℕ) (r : ℕ → Bool) (l : m < n) (lf : L
       before : m < f → withNode n (listed f r n) m ≡ some (worklistOf (updated w m true) n)
       before a = rw (le-ltb f m (omega arith), ne-eqb m f (λ e. omega arith)) (⊎-elim
           (λ b. rw (lt-ltb f n b) (behind-set r n f b m ∙ ap some (enters-first (updated r f true) a (λ j i. back b j))))
-          (λ b. rw (le-ltb f n b) (ap some (enters-first r a (none-left b))))
+          (λ b. rw (le-ltb f n b, eq-eqb f n (omega (arith, lf .within))) (ap some (enters-first r a (none-left b))))
           (below-or f n))
 
       past : m ≤ f → withNode n (listed f r n) m ≡ some (worklistOf (updated w m true) n)

@@ -21,7 +21,7 @@ use Rattle.readers.specs.Reader.{readingOf}
 use Rattle.kept_laws.specs.OptionLaws.{some-is, if-some, then-some}
 use Rattle.kept.specs.CountedSet.{andThen, CountedSet, moved, withBit, withMember}
 use Rattle.kept.specs.SetOf.{words32}
-use Rattle.kept.specs.Worklist.{Worklist, withFirst, behind, withNode, filled, advanced, advance, withoutFirst}
+use Rattle.kept.specs.Worklist.{Worklist, withFirst, behind, alone, withNode, filled, advanced, advance, withoutFirst}
 use Rattle.kept.specs.Tables.{Tables, atomCount, nodeCount, rootCount, headAt, readersAt, atomNodesAt}
 use Rattle.kept.specs.Evaluation.{Evaluation, truthAt, present, truthWord}
 use Rattle.kept.specs.Parts.{withTruths, withWorklist, withSupport, withCandidate, withFalseRoots}
@@ -76,8 +76,8 @@ module _ (n : ℕ) (w : Worklist) (m : ℕ) (r : Worklist) where
   Enters = Alike w r × ((k : ℕ) → k < m → k < w .first → k < r .first)
 
   pub node-is : withNode n w m ≡ some r → Enters
-  unfolding withNode
-  node-is e = go (ltb (w .first) m) refl (eqb m (w .first)) (ltb (w .first) n) e
+  unfolding withNode alone
+  node-is e = go (ltb (w .first) m) refl (eqb m (w .first)) (ltb (w .first) n) (eqb (w .first) n) e
     where
       same : w ≡ r → Enters
       same i = (record { members = ap (λ y. length (y .others .members)) (sym i); groups = ap (λ y. length (y .groups)) (sym i) }, λ k a b. rw i at b)
@@ -88,11 +88,13 @@ module _ (n : ℕ) (w : Worklist) (m : ℕ) (r : Worklist) where
       put : behind n (withFirst w m) (w .first) ≡ some r → Enters
       put h = let b = behind-is n (withFirst w m) (w .first) r h in (record { members = b .0 .members; groups = b .0 .groups }, λ k x y. omega (arith, b .1))
 
-      go : (a : Bool) → ltb (w .first) m ≡ a → (b c : Bool) → cond a (behind n w m) (cond b (some w) (cond c (behind n (withFirst w m) (w .first)) (some (withFirst w m)))) ≡ some r → Enters
-      go true p b c h = let x = behind-is n w m r h in (x .0, λ k y z. omega (arith, x .1))
-      go false p true c h = same (some-is w r h)
-      go false p false true h = put h
-      go false p false false h = lower (some-is (withFirst w m) r h)
+      go : (a : Bool) → ltb (w .first) m ≡ a → (b c d : Bool)
+          → cond a (behind n w m) (cond b (some w) (cond c (behind n (withFirst w m) (w .first)) (cond d (some (withFirst w m)) none))) ≡ some r → Enters
+      go true p b c d h = let x = behind-is n w m r h in (x .0, λ k y z. omega (arith, x .1))
+      go false p true c d h = same (some-is w r h)
+      go false p false true d h = put h
+      go false p false false true h = lower (some-is (withFirst w m) r h)
+      go false p false false false h = let z : _≡_ {A = ℕ} 0 1 = cc in absurd (omega arith)
 
 -- the first leaves: what comes first is above it
 module _ (n : ℕ) (w : Worklist) (r : Worklist) where

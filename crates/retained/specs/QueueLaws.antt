@@ -21,7 +21,7 @@ use Rattle.words.specs.Sets.{inserted, removed}
 use Rattle.words.specs.SetLaws.{length-removed}
 use Rattle.kept.specs.SetOf.{words32}
 use Rattle.kept.specs.CountedSet.{andThen, CountedSet, withBit, withMember}
-use Rattle.kept.specs.Worklist.{Worklist, withFirst, behind, withNode, filled, advanced, advance, withoutFirst}
+use Rattle.kept.specs.Worklist.{Worklist, withFirst, behind, alone, withNode, filled, advanced, advance, withoutFirst}
 use Rattle.kept.specs.Tables.{Tables, nodeCount}
 use Rattle.kept.specs.Evaluation.{Evaluation}
 use Rattle.kept.specs.Parts.{withWorklist}
@@ -32,7 +32,7 @@ use Rattle.kept_laws.specs.OptionLaws.{some-is, then-some}
 use Rattle.kept_laws.specs.Stores.{withMembers, withOthers, withGroups}
 use Rattle.kept_laws.specs.FitsLaws.{worklist-fits, length-members}
 use Rattle.kept_laws.specs.Written.{written-same, of-written, length-written, put-worklist, put-worklist-size, put-first, put-groups, get-worklist, get-worklist-size, get-first, get-groups, part-groups}
-use Rattle.kept_laws.specs.Wrote.{Wrote, beside-same, wrote-some, wrote-none, wrote-true, wrote-false, wrote-then, mid-holds}
+use Rattle.kept_laws.specs.Wrote.{Wrote, beside-same, beside-written, wrote-some, wrote-none, wrote-true, wrote-false, wrote-then, mid-holds}
 use Rattle.retained.specs.Member.{digitPut, bitPut, memberPut, Put}
 use Rattle.retained.specs.MemberLaws.{put-wrote}
 use Rattle.retained.specs.Changes.{waiting, advancedTo, dequeued}
@@ -150,18 +150,27 @@ module _ (T : Tables) (ws : List ℕ) (long : used T ≤ length ws) where
     passed : (a b : Option Worklist) → cond (ltb (w .first) m) a (cond (eqb m (w .first)) (some w) b) ≡ b
     passed a b = rw (le-ltb (w .first) m (omega (arith, lower)), ne-eqb m (w .first) (λ z. omega (arith, lower, z)))
 
-    comes-first : nodeCount T ≤ w .first → withNode (nodeCount T) w m ≡ some (withFirst w m)
+    comes-first : nodeCount T ≤ w .first → withNode (nodeCount T) w m ≡ alone (nodeCount T) w m
     unfolding withNode
     comes-first n =
-        passed (behind (nodeCount T) w m) (cond (ltb (w .first) (nodeCount T)) (behind (nodeCount T) (withFirst w m) (w .first)) (some (withFirst w m)))
-        ∙ ap (λ b. cond b (behind (nodeCount T) (withFirst w m) (w .first)) (some (withFirst w m))) (le-ltb (w .first) (nodeCount T) n)
+        passed (behind (nodeCount T) w m) (cond (ltb (w .first) (nodeCount T)) (behind (nodeCount T) (withFirst w m) (w .first)) (alone (nodeCount T) w m))
+        ∙ ap (λ b. cond b (behind (nodeCount T) (withFirst w m) (w .first)) (alone (nodeCount T) w m)) (le-ltb (w .first) (nodeCount T) n)
 
-    queue-first : nodeCount T ≤ getD ws 5 0 → Wrote T ws (entered T m e) true (set ws 5 m)
-    unfolding entered
-    queue-first n =
-        wrote-some T ws (entered T m e) (set ws 5 m) (withWorklist e (withFirst w m))
-        (ap (λ x. andThen x (λ v. some (withWorklist e v))) (comes-first (rw (get-first T ws) at n)))
-        (first-stored m)
+    -- none waited, or the first points past the nodes
+    queue-first : nodeCount T ≤ getD ws 5 0 → Wrote T ws (entered T m e) (eqb (getD ws 5 0) (nodeCount T)) (set ws 5 m)
+    unfolding entered alone
+    queue-first n = go (eqb (getD ws 5 0) (nodeCount T)) refl
+      where
+        found : (b : Bool) → eqb (getD ws 5 0) (nodeCount T) ≡ b → entered T m e ≡ andThen (cond b (some (withFirst w m)) none) (λ v. some (withWorklist e v))
+        found b p =
+            ap (λ x. andThen x (λ v. some (withWorklist e v)))
+            (comes-first (rw (get-first T ws) at n) ∙ ap (λ c. cond c (some (withFirst w m)) none) (ap (λ x. eqb x (nodeCount T)) (sym (get-first T ws)) ∙ p))
+
+        go : (b : Bool) → eqb (getD ws 5 0) (nodeCount T) ≡ b → Wrote T ws (entered T m e) b (set ws 5 m)
+        go true p = wrote-some T ws (entered T m e) (set ws 5 m) (withWorklist e (withFirst w m)) (found true p) (first-stored m)
+        go false p =
+            wrote-none T ws (entered T m e) (set ws 5 m) (found false p)
+            (rw (first-stored m) (beside-written T ws (withWorklist e (withFirst w m)) long (first-fits m)))
 
     queue-lower : (ok : Bool) (after : List ℕ) → getD ws 5 0 < nodeCount T
         → Wrote T (set ws 5 m) (waiting T (getD ws 5 0) (ofWords T (set ws 5 m))) ok after → Wrote T ws (entered T m e) ok after
@@ -171,7 +180,7 @@ module _ (T : Tables) (ws : List ℕ) (long : used T ≤ length ws) where
         let i : ofWords T (set ws 5 m) ≡ d = mid-holds T ws (set ws 5 m) d long (first-fits m) (first-stored m) in
         let g = wrote-then T ws (set ws 5 m) d long (first-fits m) (first-stored m) (waiting T (getD ws 5 0) (ofWords T (set ws 5 m))) ok after h in
         let s : waiting T (getD ws 5 0) (ofWords T (set ws 5 m)) ≡ waiting T (w .first) d = rw (i, get-first T ws) in
-        rw (passed (behind (nodeCount T) w m) (cond (ltb (w .first) (nodeCount T)) (behind (nodeCount T) (withFirst w m) (w .first)) (some (withFirst w m))), lt-ltb (w .first) (nodeCount T) (rw (get-first T ws) at n))
+        rw (passed (behind (nodeCount T) w m) (cond (ltb (w .first) (nodeCount T)) (behind (nodeCount T) (withFirst w m) (w .first)) (alone (nodeCount T) w m)), lt-ltb (w .first) (nodeCount T) (rw (get-first T ws) at n))
         (rw s at g)
 
   -- as the code does both: the lower of m and the first is held, and the other goes on
@@ -186,9 +195,9 @@ module _ (T : Tables) (ws : List ℕ) (long : used T ≤ length ws) where
     held-other : first ≤ m → (other ≡ m) × (mid ≡ ws)
     held-other l = (o ∙ rw (le-ltb m first l), s ∙ rw (le-ltb m first l))
 
-    pub queue-held : m < nodeCount T → nodeCount T ≤ other → Went true mid
+    pub queue-held : m < nodeCount T → nodeCount T ≤ other → Went (eqb other (nodeCount T)) mid
     queue-held b h = ⊎-elim
-        (λ l. let x = held-lower l in rw (x .1) (queue-first m (omega (arith, is)) (omega (arith, x .0))))
+        (λ l. let x = held-lower l in rw (x .0, x .1) (queue-first m (omega (arith, is)) (omega (arith, x .0))))
         (λ l. let x = held-other l in absurd (omega (arith, x .0)))
         (below-or m first)
 

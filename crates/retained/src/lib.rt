@@ -103,7 +103,7 @@ fn hold(kept: &mut [u32], first: usize, m: usize) -> usize
     m
 }
 
-// Node m onto the worklist: the lower of it and the first comes first, the other waits behind.
+// Node m onto the worklist: the lower of it and the first comes first, the other waits behind; a first above the number of nodes is refused.
 pub fn queue(counts: Counts, kept: &mut [u32], m: usize) -> bool
     requires { ⌜ Limited counts × (m < counts .nodes) × (usedBy counts ≤ length (now kept)) ⌝ }
     ensures { λ r. ⌜ ((T : Tables) → Wrote (sized counts T) (now (kept .entry)) (entered (sized counts T) m (ofWords (sized counts T) (now (kept .entry)))) r (now (kept .exit))) ⌝ }
@@ -114,7 +114,7 @@ pub fn queue(counts: Counts, kept: &mut [u32], m: usize) -> bool
     }
     let other = hold(kept, first, m);
     if other >= counts.nodes {
-        return true;
+        return other == counts.nodes;
     }
     wait(counts, kept, other)
 }

@@ -32,7 +32,7 @@ same-length-2 c = search needs
 
 -- src/lib.rt:123:9
 returns-2 : tie.Need-returns-2
-returns-2 c = λ T. queue-held (sized (c .before .before .before .before .before .before .before .before .before .before .args .counts) T) (c .before .before .before .before .before .before .before .before .before .before .args .kept .now) (c .before .before .before .before .before .before .before .before .before .before .pre .2) (c .before .before .before .before .before .before .before .before .before .before .args .m) _ _ _ (c .before .before .before .before .before .before .before .word .ensures .0) (c .before .before .before .before .before .before .if1 .left) (c .before .before .before .before .hold .ensures .0) (c .before .before .before .before .hold .ensures .1) (c .before .before .before .before .before .before .before .before .before .before .pre .1) (c .if2 .taken)
+returns-2 c = λ T. queue-held (sized (c .before .before .before .before .before .before .before .before .before .before .before .args .counts) T) (c .before .before .before .before .before .before .before .before .before .before .before .args .kept .now) (c .before .before .before .before .before .before .before .before .before .before .before .pre .2) (c .before .before .before .before .before .before .before .before .before .before .before .args .m) _ _ _ (c .before .before .before .before .before .before .before .before .word .ensures .0) (c .before .before .before .before .before .before .before .if1 .left) (c .before .before .before .before .before .hold .ensures .0) (c .before .before .before .before .before .hold .ensures .1) (c .before .before .before .before .before .before .before .before .before .before .before .pre .1) (c .before .if2 .taken)
 
 -- src/lib.rt:125:5
 wait-requires : tie.Need-wait-requires
