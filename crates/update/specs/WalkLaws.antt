@@ -68,42 +68,42 @@ module _ (T : Tables) (ws : List ℕ) (r : Taking) (after : List ℕ) where
       let q : j ≡ k = cc in
       (ap fault q, h .1)
 
--- ---- the loop: n nodes are behind, the words are `now`
+-- ---- the loop: n nodes are behind, g of them before it, the words are `now`
 
-pub record Walking (T : Tables) (ws : List ℕ) (n : ℕ) (now : List ℕ) : Type 0 where
+pub record Walking (T : Tables) (g : ℕ) (ws : List ℕ) (n : ℕ) (now : List ℕ) : Type 0 where
   pub fits : Fits T (ofWords T now)
   pub put : now ≡ written T ws (ofWords T now)
-  pub left : resumed T 0 (walk T (suc (nodeCount T)) (ofWords T ws)) ≡ resumed T n (walk T (suc (nodeCount T)) (ofWords T now))
+  pub left : resumed T g (walk T (suc (nodeCount T)) (ofWords T ws)) ≡ resumed T n (walk T (suc (nodeCount T)) (ofWords T now))
 
 -- from words to words: a node was taken, and the first is above it then
-pub record Turned (T : Tables) (ws : List ℕ) (n : ℕ) (now after : List ℕ) : Type 0 where
-  pub walking : Walking T ws (n + 1) after
+pub record Turned (T : Tables) (g : ℕ) (ws : List ℕ) (n : ℕ) (now after : List ℕ) : Type 0 where
+  pub walking : Walking T g ws (n + 1) after
   pub node : getD now 5 0 < nodeCount T
   pub above : getD now 5 0 < getD after 5 0
 
-module _ (T : Tables) (ws : List ℕ) (long : used T ≤ length ws) where
+module _ (T : Tables) (g : ℕ) (ws : List ℕ) (long : used T ≤ length ws) where
   abbrev whole : Result
-  whole = resumed T 0 (walk T (suc (nodeCount T)) (ofWords T ws))
+  whole = resumed T g (walk T (suc (nodeCount T)) (ofWords T ws))
 
-  pub walk-begins : Walking T ws 0 ws
+  pub walk-begins : Walking T g ws g ws
   walk-begins = record { fits = fits-of T ws long; put = sym (written-same T ws long); left = refl }
 
-  module _ (n : ℕ) (now : List ℕ) (w : Walking T ws n now) (r : Taking) (after : List ℕ) (h : Steps T now (step T (ofWords T now)) r after) where
+  module _ (n : ℕ) (now : List ℕ) (w : Walking T g ws n now) (r : Taking) (after : List ℕ) (h : Steps T now (step T (ofWords T now)) r after) where
     mid-long : used T ≤ length now
     mid-long = rw (ap length (w .put) ∙ length-written T ws long (ofWords T now) (w .fits)) long
 
     -- a node was taken
-    pub walk-turns : (k : ℕ) → r ≡ Took k → Turned T ws n now after
+    pub walk-turns : (k : ℕ) → r ≡ Took k → Turned T g ws n now after
     walk-turns k e =
         let s = stepped-took T now r after (step T (ofWords T now)) k h e in
-        let g : Fits T (s .0) = step-fits T (ofWords T now) k (s .0) (s .1) (w .fits) in
-        let holds : ofWords T after ≡ s .0 = ap (ofWords T) (s .2) ∙ of-written T now mid-long (s .0) g in
+        let f : Fits T (s .0) = step-fits T (ofWords T now) k (s .0) (s .1) (w .fits) in
+        let holds : ofWords T after ≡ s .0 = ap (ofWords T) (s .2) ∙ of-written T now mid-long (s .0) f in
         let b = step-next T k (ofWords T now) (s .0) (s .1) in
         let old : getD now 5 0 ≡ k = get-first T now ∙ b .0 in
         let new : getD after 5 0 ≡ s .0 .worklist .first = get-first T after ∙ ap (λ y. y .worklist .first) holds in
         record {
           walking = record {
-            fits = rw holds g;
+            fits = rw holds f;
             put = s .2 ∙ ap (λ y. written T y (s .0)) (w .put) ∙ written-again T ws long (ofWords T now) (w .fits) (s .0) ∙ ap (written T ws) (sym holds);
             left = w .left ∙ walk-more T n k (ofWords T now) (s .0) (s .1) ∙ ap (λ y. resumed T (n + 1) (walk T (suc (nodeCount T)) y)) (sym holds);
           };

@@ -41,8 +41,8 @@ pub fn told(judged: Judged, n: usize) -> Checked
     }
 }
 
-// Steps until the worklist is empty, then the verdict.
-fn walk(
+// Steps until the worklist is empty, then the verdict; `gone` nodes were gone over before. After a fresh check too, whose worklist is empty: with two callers the walk stays a function of its own, with registers of its own.
+pub fn walk(
     counts: Counts,
     made: usize,
     nodes: &[u32],
@@ -51,11 +51,18 @@ fn walk(
     producers: &[u32],
     readers: &[u64],
     kept: &mut [u32],
+    gone: usize,
 ) -> Checked
-    requires { ⌜ Lent counts made (length (now nodes)) (length (now operands)) (length (now producers)) (length (now readers)) (length (now kept)) × (counts .roots ≤ length (now roots)) ⌝ }
-    ensures { λ r. ⌜ ((T : Tables) → Results (lent counts made (now (nodes .entry)) (now (operands .entry)) (now (roots .entry)) (now (producers .entry)) (now (readers .entry)) T) (now (kept .entry)) (resumed (lent counts made (now (nodes .entry)) (now (operands .entry)) (now (roots .entry)) (now (producers .entry)) (now (readers .entry)) T) 0 (walk (lent counts made (now (nodes .entry)) (now (operands .entry)) (now (roots .entry)) (now (producers .entry)) (now (readers .entry)) T) (suc (counts .nodes)) (ofWords (lent counts made (now (nodes .entry)) (now (operands .entry)) (now (roots .entry)) (now (producers .entry)) (now (readers .entry)) T) (now (kept .entry))))) r (now (kept .exit))) ⌝ }
+    requires { ⌜ Lent counts made (length (now nodes)) (length (now operands)) (length (now producers)) (length (now readers)) (length (now kept)) × (counts .roots ≤ length (now roots)) × (gone ≤ counts .nodes) ⌝ }
+    ensures { λ r. ⌜ ((T : Tables) → Results (lent counts made (now (nodes .entry)) (now (operands .entry)) (now (roots .entry)) (now (producers .entry)) (now (readers .entry)) T) (now (kept .entry)) (resumed (lent counts made (now (nodes .entry)) (now (operands .entry)) (now (roots .entry)) (now (producers .entry)) (now (readers .entry)) T) gone (walk (lent counts made (now (nodes .entry)) (now (operands .entry)) (now (roots .entry)) (now (producers .entry)) (now (readers .entry)) T) (suc (counts .nodes)) (ofWords (lent counts made (now (nodes .entry)) (now (operands .entry)) (now (roots .entry)) (now (producers .entry)) (now (readers .entry)) T) (now (kept .entry))))) r (now (kept .exit))) ⌝ }
 {
-    let mut n = 0;
+    // named again, so that the compiler hands them on by value
+    let nodes = &nodes[..];
+    let operands = &operands[..];
+    let roots = &roots[..];
+    let producers = &producers[..];
+    let readers = &readers[..];
+    let mut n = gone;
     loop {
         match step::step(counts, made, nodes, operands, producers, readers, kept) {
             Taking::Idle => {
@@ -116,5 +123,6 @@ pub fn update(
         producers,
         readers,
         kept,
+        0,
     )
 }

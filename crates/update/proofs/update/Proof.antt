@@ -3,6 +3,7 @@ use Rattle.update.specs.WalkLaws.{not-stray, update-stray, update-fault,
 use Rattle.kept_laws.specs.OptionLaws.{not-true, not-false}
 use Rattle.update.specs.Results.{lent}
 use Rattle.words.specs.Sets.{member}
+use native.Mathlib.Omega.{arith}
 use mathlib.Core.Path.{sym, _∙_}
 use borrow.Author.Needs.{needs}
 use Rattle.update.proofs.update.Statement.{statement}
@@ -36,7 +37,7 @@ returns-2 : tie.Need-returns-2
 returns-2 c = λ T. update-fault (lent (c .before .before .before .before .before .before .before .before .before .before .before .before .before .before .before .before .args .counts) (c .before .before .before .before .before .before .before .before .before .before .before .before .before .before .before .before .args .made) (c .before .before .before .before .before .before .before .before .before .before .before .before .before .before .before .before .args .nodes .now) (c .before .before .before .before .before .before .before .before .before .before .before .before .before .before .before .before .args .operands .now) (c .before .before .before .before .before .before .before .before .before .before .before .before .before .before .before .before .args .roots .now) (c .before .before .before .before .before .before .before .before .before .before .before .before .before .before .before .before .args .producers .now) (c .before .before .before .before .before .before .before .before .before .before .before .before .before .before .before .before .args .readers .now) T) (member 64 (c .before .before .before .before .before .before .before .before .before .before .before .before .before .before .before .before .args .candidate .now)) (c .before .before .before .before .before .before .before .before .before .before .before .before .before .before .before .before .args .kept .now) (c .before .before .before .before .before .before .before .before .before .before .before .before .before .before .before .before .pre .0 .kept-long) (sym (c .before .before .before .before .before .before .stray-member .ensures (lent (c .before .before .before .before .before .before .before .before .before .before .before .before .before .before .before .before .args .counts) (c .before .before .before .before .before .before .before .before .before .before .before .before .before .before .before .before .args .made) (c .before .before .before .before .before .before .before .before .before .before .before .before .before .before .before .before .args .nodes .now) (c .before .before .before .before .before .before .before .before .before .before .before .before .before .before .before .before .args .operands .now) (c .before .before .before .before .before .before .before .before .before .before .before .before .before .before .before .before .args .roots .now) (c .before .before .before .before .before .before .before .before .before .before .before .before .before .before .before .before .args .producers .now) (c .before .before .before .before .before .before .before .before .before .before .before .before .before .before .before .before .args .readers .now) T)) ∙ c .before .before .before .before .before .if1 .left) _ _ (c .before .before .before .start .ensures (lent (c .before .before .before .before .before .before .before .before .before .before .before .before .before .before .before .before .args .counts) (c .before .before .before .before .before .before .before .before .before .before .before .before .before .before .before .before .args .made) (c .before .before .before .before .before .before .before .before .before .before .before .before .before .before .before .before .args .nodes .now) (c .before .before .before .before .before .before .before .before .before .before .before .before .before .before .before .before .args .operands .now) (c .before .before .before .before .before .before .before .before .before .before .before .before .before .before .before .before .args .roots .now) (c .before .before .before .before .before .before .before .before .before .before .before .before .before .before .before .before .args .producers .now) (c .before .before .before .before .before .before .before .before .before .before .before .before .before .before .before .before .args .readers .now) T)) (not-true _ (c .if2 .taken))
 
 walk-requires : tie.Need-walk-requires
-walk-requires c κs = (rw (c .before .before .before .before .start .kept .1 .1 .1 .0) (c .before .before .before .before .before .before .before .before .before .before .before .before .before .before .before .before .before .pre .0), c .before .before .before .before .before .before .before .before .before .before .before .before .before .before .before .before .before .pre .1)
+walk-requires c κs = (rw (c .before .before .before .before .start .kept .1 .1 .1 .0) (c .before .before .before .before .before .before .before .before .before .before .before .before .before .before .before .before .before .pre .0), c .before .before .before .before .before .before .before .before .before .before .before .before .before .before .before .before .before .pre .1, omega arith)
 
 same-length-3 : tie.Need-same-length-3
 same-length-3 c = search needs
