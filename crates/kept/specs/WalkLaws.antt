@@ -75,6 +75,11 @@ none-each f g (x ∷ xs) e = (
   none-each f g xs (neither-right (unlike (f x) (g x)) (anyTrue (map (λ o. unlike (f o) (g o)) xs)) e),
 )
 
+-- nothing waits in a fresh evaluation
+pub fresh-idle : (T : Tables) (J : Interpretation) → step T (fresh T J) ≡ idle
+unfolding step stepAt fresh summary held
+fresh-idle T J = rw (first-none (λ k. false) (nodeCount T) (λ j h. refl), le-ltb (nodeCount T) (nodeCount T) (omega arith), eq-eqb (nodeCount T) (nodeCount T) refl)
+
 any-zero : (d : ℕ → Bool) (xs : List ℕ) → anyTrue (map (λ o. ltb o 0 && d o) xs) ≡ false
 unfolding anyTrue
 any-zero d [] = refl
@@ -203,14 +208,10 @@ module _ (T : Tables) (good : Consistent T) where
         summary-agree (mixed (nodeCount T)) (truth T J) (waiting (nodeCount T)) (λ k. false) J J
         (λ j i. switched-below (nodeCount T) (truth T I) (truth T J) j i) (λ j i. waiting-below (nodeCount T) j i) (λ a i. refl)
 
-    fresh-idle : step T (fresh T J) ≡ idle
-    unfolding step stepAt fresh summary held
-    fresh-idle = rw (first-none (λ k. false) (nodeCount T) (λ j h. refl), le-ltb (nodeCount T) (nodeCount T) (omega arith), eq-eqb (nodeCount T) (nodeCount T) refl)
-
     walk-fresh : (n : ℕ) → walk T n (fresh T J) ≡ ended [] (fresh T J)
     unfolding walk
     walk-fresh zero = refl
-    walk-fresh (suc n) = rw fresh-idle
+    walk-fresh (suc n) = rw (fresh-idle T J)
 
     -- the steps from k on
     pub walk-midway : (d k n : ℕ) → k + d ≡ nodeCount T → d ≤ n → walk T n (midway k) ≡ ended (places (dirty T I J) k d) (fresh T J)
