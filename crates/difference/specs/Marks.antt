@@ -7,7 +7,7 @@ use mathlib.Core.List.{List}
 use lib.ListN.{getD}
 use Rattle.words.specs.Sets.{member}
 use Rattle.theory.specs.declared.Counts.{Counts}
-use Rattle.kept.specs.SetOf.{words32}
+use Rattle.kept.specs.SetOf.{words32, words64}
 use Rattle.kept_laws.specs.Given.{candidateAt}
 use Rattle.kept_laws.specs.Halves.{half}
 
@@ -26,3 +26,10 @@ Upto at kept new n marks = (i : ℕ) → i < n → member 64 marks (i / 2) ≡ f
 -- so of all words
 abbrev pub Marked : Counts → List ℕ → List ℕ → List ℕ → Type 0
 Marked t kept new marks = Upto (candidateAt t) kept new (words32 (t .atoms)) marks
+
+-- but for pairs `first` to `end` all words are the same
+abbrev pub Between : Counts → List ℕ → List ℕ → ℕ → ℕ → Type 0
+Between t kept new first end =
+    ((i : ℕ) → i < 2 * first → i < words32 (t .atoms) → Same (candidateAt t) kept new i)
+    × ((i : ℕ) → 2 * end ≤ i → i < words32 (t .atoms) → Same (candidateAt t) kept new i)
+    × (end ≤ words64 (t .atoms))
