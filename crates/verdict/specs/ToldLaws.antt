@@ -17,7 +17,7 @@ use Rattle.kept.specs.Tables.{Tables}
 use Rattle.kept.specs.Layout.{ofWords, missingStart, falseRootsStart, groupsStart, used}
 use Rattle.kept.specs.Verdict as verdicts
 use Rattle.kept.specs.Verdict.{judged, verdictOf}
-use Rattle.kept_laws.specs.Exits.{lookup-found, lookup-astray}
+use Rattle.kept_laws.specs.Exits.{lookup-none, lookup-found, lookup-astray}
 use Rattle.kept_laws.specs.Given.{bare, sized, rooted}
 use Rattle.kept_laws.specs.Written.{get-missing-size, get-falseRoots-size, part-missing, part-falseRoots}
 use Rattle.verdict.specs.Told.{lookupOf}
@@ -48,15 +48,21 @@ told-below t n k s r p q = lookup-below n 0 k (s (bare t)) (sym (p (bare t)) ∙
 
 -- ---- a set lent as a slice, with its count in the header
 
-module _ (T : Tables) (ws : List ℕ) (long : used T ≤ length ws) (size : ℕ) where
-  abbrev lent : ℕ → ℕ → CountedSet
-  lent a b = record { members = take (b - a) (drop a ws); size = size }
+module _ (T : Tables) (ws : List ℕ) where
+  pub none-false : (n : ℕ) → getD ws 3 0 ≡ 0 → sets.empty ≡ lookup n 0 (ofWords T ws .falseRoots)
+  none-false n e = sym (lookup-none n 0 (ofWords T ws .falseRoots) (sym (get-falseRoots-size T ws) ∙ e))
 
-  pub lent-falseRoots : size ≡ getD ws 3 0 → lent (falseRootsStart T) (groupsStart T) ≡ ofWords T ws .falseRoots
-  lent-falseRoots e = rw (part-falseRoots T ws long, e ∙ get-falseRoots-size T ws)
+  pub none-missing : (n : ℕ) → getD ws 2 0 ≡ 0 → sets.empty ≡ lookup n 0 (ofWords T ws .missing)
+  none-missing n e = sym (lookup-none n 0 (ofWords T ws .missing) (sym (get-missing-size T ws) ∙ e))
 
-  pub lent-missing : size ≡ getD ws 2 0 → lent (missingStart T) (falseRootsStart T) ≡ ofWords T ws .missing
-  lent-missing e = rw (part-missing T ws long, e ∙ get-missing-size T ws)
+  abbrev lent : ℕ → ℕ → ℕ → CountedSet
+  lent a b i = record { members = take (b - a) (drop a ws); size = getD ws i 0 }
+
+  pub lent-falseRoots : used T ≤ length ws → lent (falseRootsStart T) (groupsStart T) 3 ≡ ofWords T ws .falseRoots
+  lent-falseRoots long = rw (part-falseRoots T ws long, get-falseRoots-size T ws)
+
+  pub lent-missing : used T ≤ length ws → lent (missingStart T) (falseRootsStart T) 2 ≡ ofWords T ws .missing
+  lent-missing long = rw (part-missing T ws long, get-missing-size T ws)
 
 -- ---- the verdict, whatever the rest of the tables is
 

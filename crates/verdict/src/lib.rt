@@ -1,6 +1,6 @@
 // The verdict that a kept evaluation tells.
 ghost use mathlib.Core.Path.{_≡_};
-ghost use Prim.Native.Nat.{_<_, _≤_};
+ghost use Prim.Native.Nat.{ℕ, _<_, _≤_};
 ghost use lib.ListN.{length};
 ghost use Rattle.theory.specs.Limits.{Limited};
 ghost use Rattle.kept.specs.CountedSet.{lookup};
@@ -31,14 +31,11 @@ pub enum Lookup {
     Astray,
 }
 
-// Of the set in `words`, `size` its count, its members below n.
-fn lowest(words: &[u32], size: usize, n: usize) -> Lookup
+// Of the set in `words`, whose count is not 0, its members below n.
+fn lowest(words: &[u32], n: usize) -> Lookup
     requires { ⌜ length (now words) ≤ 8192 ⌝ }
-    ensures { λ r. ⌜ lookupOf r ≡ lookup n 0 (record { members = now (words .entry); size = size }) ⌝ }
+    ensures { λ r. ⌜ ((size : ℕ) → (size ≡ 0 → ⊥) → lookupOf r ≡ lookup n 0 (record { members = now (words .entry); size = size })) ⌝ }
 {
-    if size == 0 {
-        return Lookup::Empty;
-    }
     let i = words::set32::next_word(words, 0);
     if i < n { Lookup::At(i) } else { Lookup::Astray }
 }
@@ -47,22 +44,28 @@ fn first_false(counts: Counts, kept: &[u32]) -> Lookup
     requires { ⌜ Limited counts × (usedBy counts ≤ length (now kept)) ⌝ }
     ensures { λ r. ⌜ ((T : Tables) → lookupOf r ≡ lookup (counts .roots) 0 (ofWords (sized counts T) (now (kept .entry)) .falseRoots)) ⌝ }
 {
+    if kept[3] == 0 {
+        return Lookup::Empty;
+    }
     let n = counts.nodes;
     let a = counts.atoms;
     let at = 8 + n + (n + 31) / 32 + a + (a + 31) / 32 + (a + 31) / 32;
     let end = at + (counts.roots + 31) / 32;
-    lowest(&kept[at..end], words::word(kept, 3), counts.roots)
+    lowest(&kept[at..end], counts.roots)
 }
 
 fn first_missing(counts: Counts, kept: &[u32]) -> Lookup
     requires { ⌜ Limited counts × (usedBy counts ≤ length (now kept)) ⌝ }
     ensures { λ r. ⌜ ((T : Tables) → lookupOf r ≡ lookup (counts .atoms) 0 (ofWords (sized counts T) (now (kept .entry)) .missing)) ⌝ }
 {
+    if kept[2] == 0 {
+        return Lookup::Empty;
+    }
     let n = counts.nodes;
     let a = counts.atoms;
     let at = 8 + n + (n + 31) / 32 + a + (a + 31) / 32;
     let end = at + (a + 31) / 32;
-    lowest(&kept[at..end], words::word(kept, 2), a)
+    lowest(&kept[at..end], a)
 }
 
 // By the false roots in root order, then the missing atoms.

@@ -1,87 +1,72 @@
 use mathlib.Core.Path.{ap, _∙_}
+use lib.ListN.{getD}
 use Rattle.kept.specs.CountedSet.{lookup}
 use Rattle.kept_laws.specs.Given.{sized}
-use Rattle.verdict.specs.ToldLaws.{lent-falseRoots}
+use Rattle.verdict.specs.ToldLaws.{none-false, lent-falseRoots}
 use borrow.Author.Needs.{needs}
 use Rattle.verdict.proofs.first_false.Statement.{statement}
 use Rattle.verdict.proofs.first_false.Tie as tie
-use Rattle.verdict.proofs.first_false.Reads as reads
-use Rattle.verdict.proofs.first_false.Lts as lts
-use Rattle.verdict.proofs.lowest.Reads as lowest-reads
-use Rattle.words.proofs.word.Reads as word-reads
 
--- src/lib.rt:52:14
+shared-slice-read-if1 : tie.Need-shared-slice-read-if1
+shared-slice-read-if1 c = search needs
+
+returns : tie.Need-returns
+returns c = λ T. none-false (sized (c .before .before .before .args .counts) T) (c .before .before .before .args .kept .now) (c .before .before .before .args .counts .roots) (c .if1 .taken)
+
 add-at : tie.Need-add-at
 add-at c = search needs
 
--- src/lib.rt:52:24
 add-at-2 : tie.Need-add-at-2
 add-at-2 c = search needs
 
--- src/lib.rt:52:14
 add-at-3 : tie.Need-add-at-3
 add-at-3 c = search needs
 
--- src/lib.rt:52:14
 add-at-4 : tie.Need-add-at-4
 add-at-4 c = search needs
 
--- src/lib.rt:52:44
 add-at-5 : tie.Need-add-at-5
 add-at-5 c = search needs
 
--- src/lib.rt:52:14
 add-at-6 : tie.Need-add-at-6
 add-at-6 c = search needs
 
--- src/lib.rt:52:60
 add-at-7 : tie.Need-add-at-7
 add-at-7 c = search needs
 
--- src/lib.rt:52:14
 add-at-8 : tie.Need-add-at-8
 add-at-8 c = search needs
 
--- src/lib.rt:53:21
 add-end : tie.Need-add-end
 add-end c = search needs
 
--- src/lib.rt:53:15
 add-end-2 : tie.Need-add-end-2
 add-end-2 c = search needs
 
--- src/lib.rt:54:12
 mul-lowest : tie.Need-mul-lowest
 mul-lowest c = search needs
 
--- src/lib.rt:54:12
 sub-lowest : tie.Need-sub-lowest
 sub-lowest c = search needs
 
--- src/lib.rt:54:12
 part-lowest-start : tie.Need-part-lowest-start
 part-lowest-start c = search needs
 
--- src/lib.rt:54:12
 part-lowest-end : tie.Need-part-lowest-end
 part-lowest-end c = search needs
 
--- src/lib.rt:54:28
-word-requires : tie.Need-word-requires
-word-requires c κs = search needs
-
--- src/lib.rt:54:5
 lowest-requires : tie.Need-lowest-requires
 lowest-requires c κs = search needs
 
--- src/lib.rt:46:1
-returns : tie.Need-returns
-returns c = λ T. c .lowest .ensures ∙ ap (λ s. lookup (c .before .before .before .before .before .args .counts .roots) 0 s) (lent-falseRoots (sized (c .before .before .before .before .before .args .counts) T) (c .before .before .before .before .before .args .kept .now) (c .before .before .before .before .before .pre .1) _ (c .before .word .ensures .0))
+returns-2 : tie.Need-returns-2
+returns-2 c = λ T. c .lowest .ensures (getD (c .before .before .before .before .before .before .args .kept .now) 3 0) (c .before .before .before .if1 .left) ∙ ap (λ s. lookup (c .before .before .before .before .before .before .args .counts .roots) 0 s) (lent-falseRoots (sized (c .before .before .before .before .before .before .args .counts) T) (c .before .before .before .before .before .before .args .kept .now) (c .before .before .before .before .before .before .pre .1))
 
 pub first-false-spec : {M : Type 1} → statement M
 first-false-spec =
     tie.close
     (tie.spec
+    shared-slice-read-if1
+    returns
     add-at
     add-at-2
     add-at-3
@@ -96,6 +81,5 @@ first-false-spec =
     sub-lowest
     part-lowest-start
     part-lowest-end
-    word-requires
     lowest-requires
-    returns)
+    returns-2)

@@ -11,59 +11,45 @@ use Rattle.verdict.proofs.first_false.Reads as first-false-reads
 use Rattle.verdict.proofs.first_missing.Reads as first-missing-reads
 use Rattle.words.proofs.word.Reads as word-reads
 
--- src/lib.rt:73:11
 first-false-requires : tie.Need-first-false-requires
 first-false-requires c κs = search needs
 
--- src/lib.rt:74:20
 enum-known-p : tie.Need-enum-known-p
 enum-known-p c = search needs
 
--- src/lib.rt:74:57
 word-requires : tie.Need-word-requires
 word-requires c κs = let below = told-below (c .before .before .before .before .before .before .args .counts) (c .before .before .before .before .before .before .args .counts .roots) _ (λ T. ofWords (sized (c .before .before .before .before .before .before .args .counts) T) (c .before .before .before .before .before .before .args .kept .now) .falseRoots) _ (c .before .before .before .first-false .ensures) (c .before .p .given .1) in omega (arith, below, c .before .before .before .before .before .before .pre .1)
 
--- src/lib.rt:75:27
 enum-told : tie.Need-enum-told
 enum-told c = search needs
 
--- src/lib.rt:76:32
 enum-told-2 : tie.Need-enum-told-2
 enum-told-2 c = search needs
 
--- src/lib.rt:76:32
 first-missing-requires : tie.Need-first-missing-requires
 first-missing-requires c κs = search needs
 
--- src/lib.rt:77:24
 enum-known-a : tie.Need-enum-known-a
 enum-known-a c = search needs
 
--- src/lib.rt:78:31
 enum-told-3 : tie.Need-enum-told-3
 enum-told-3 c = search needs
 
--- src/lib.rt:79:43
 enum-told-4 : tie.Need-enum-told-4
 enum-told-4 c = search needs
 
--- src/lib.rt:69:1
 returns : tie.Need-returns
 returns c = not-model (c .before .before .before .before .before .before .before .args .counts) (c .before .before .before .before .before .before .before .args .roots .now) (c .before .before .before .before .before .before .before .args .kept .now) _ (c .before .before .before .before .first-false .ensures) _ _ (c .before .before .p .given .1) (c .word .ensures .0)
 
--- src/lib.rt:69:1
 returns-2 : tie.Need-returns-2
 returns-2 c = roots-astray (c .before .before .before .before .before .args .counts) (c .before .before .before .before .before .args .roots .now) (c .before .before .before .before .before .args .kept .now) _ (c .before .before .first-false .ensures) (c .enum-told .given .1)
 
--- src/lib.rt:69:1
 returns-3 : tie.Need-returns-3
 returns-3 c = residual-of (c .before .before .before .before .before .before .before .before .before .args .counts) (c .before .before .before .before .before .before .before .before .before .args .roots .now) (c .before .before .before .before .before .before .before .before .before .args .kept .now) _ (c .before .before .before .before .before .before .first-false .ensures) (c .before .before .before .before .enum-told2 .given .1) _ (c .before .before .before .first-missing .ensures) _ (c .before .a .given .1)
 
--- src/lib.rt:69:1
 returns-4 : tie.Need-returns-4
 returns-4 c = missing-astray (c .before .before .before .before .before .before .before .before .args .counts) (c .before .before .before .before .before .before .before .before .args .roots .now) (c .before .before .before .before .before .before .before .before .args .kept .now) _ (c .before .before .before .before .before .first-false .ensures) (c .before .before .before .enum-told2 .given .1) _ (c .before .before .first-missing .ensures) (c .enum-told3 .given .1)
 
--- src/lib.rt:69:1
 returns-5 : tie.Need-returns-5
 returns-5 c = stable-of (c .before .before .before .before .before .before .before .before .args .counts) (c .before .before .before .before .before .before .before .before .args .roots .now) (c .before .before .before .before .before .before .before .before .args .kept .now) _ (c .before .before .before .before .before .first-false .ensures) (c .before .before .before .enum-told2 .given .1) _ (c .before .before .first-missing .ensures) (c .enum-told4 .given .1)
 
