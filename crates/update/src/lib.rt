@@ -15,7 +15,7 @@ ghost use Rattle.kept.specs.Walk.{walk, keptWalk};
 ghost use Rattle.kept.specs.Check.{concluded, keptResult};
 ghost use Rattle.kept_laws.specs.Given.{usedBy, sized};
 ghost use Rattle.kept_laws.specs.Turns.{resumed};
-ghost use Rattle.difference.specs.Marks.{Marked};
+ghost use Rattle.difference.specs.Marks.{Marked, Between};
 ghost use Rattle.step.specs.Steps.{Lent};
 ghost use Rattle.verdict.specs.Told.{judgedOf};
 ghost use Rattle.update.specs.Results.{lent, answerOf, answerIn, Results};
@@ -92,7 +92,7 @@ fn stray_member(counts: Counts, kept: &[u32]) -> bool
     kept[at] >> (a % 32) != 0
 }
 
-// The kept evaluation brought to the new candidate, whose listed words `candidate` is; `marks` the pairs of its words that may differ.
+// The kept evaluation brought to the new candidate, whose listed words `candidate` is; `marks` the pairs of its words that may differ, all of them from `first` to `end`.
 pub fn update(
     counts: Counts,
     made: usize,
@@ -104,14 +104,16 @@ pub fn update(
     readers: &[u64],
     kept: &mut [u32],
     marks: &[u64],
+    first: usize,
+    end: usize,
 ) -> Checked
-    requires { ⌜ Lent counts made (length (now nodes)) (length (now operands)) (length (now producers)) (length (now readers)) (length (now kept)) × (counts .roots ≤ length (now roots)) × (length (now candidate) ≡ words64 (counts .atoms)) × Within (counts .atoms) (member 64 (now candidate)) × Marked counts (now kept) (now candidate) (now marks) × (words64 (counts .atoms) ≤ 64 * length (now marks)) × (length (now marks) ≤ 16) ⌝ }
+    requires { ⌜ Lent counts made (length (now nodes)) (length (now operands)) (length (now producers)) (length (now readers)) (length (now kept)) × (counts .roots ≤ length (now roots)) × (length (now candidate) ≡ words64 (counts .atoms)) × Within (counts .atoms) (member 64 (now candidate)) × Marked counts (now kept) (now candidate) (now marks) × (words64 (counts .atoms) ≤ 64 * length (now marks)) × (length (now marks) ≤ 16) × Between counts (now kept) (now candidate) first end ⌝ }
     ensures { λ r. ⌜ ((T : Tables) → Results (lent counts made (now (nodes .entry)) (now (operands .entry)) (now (roots .entry)) (now (producers .entry)) (now (readers .entry)) T) (now (kept .entry)) (keptResult (lent counts made (now (nodes .entry)) (now (operands .entry)) (now (roots .entry)) (now (producers .entry)) (now (readers .entry)) T) (keptWalk (lent counts made (now (nodes .entry)) (now (operands .entry)) (now (roots .entry)) (now (producers .entry)) (now (readers .entry)) T) (member 64 (now (candidate .entry))) (ofWords (lent counts made (now (nodes .entry)) (now (operands .entry)) (now (roots .entry)) (now (producers .entry)) (now (readers .entry)) T) (now (kept .entry))))) r (now (kept .exit))) ⌝ }
 {
     if stray_member(counts, kept) {
         return Checked::Refused(Refusal::BadEntry(0));
     }
-    if !start::start(counts, candidate, readers, kept, marks) {
+    if !start::start(counts, candidate, readers, kept, marks, first, end) {
         return Checked::Refused(Refusal::BadEntry(0));
     }
     walk(

@@ -28,7 +28,7 @@ returns c = λ T. update-stray (lent (c .before .before .before .before .before 
 
 -- src/lib.rt:108:11
 start-requires : tie.Need-start-requires
-start-requires c κs = ((c .before .before .before .before .before .before .before .before .before .before .before .before .pre .0 .limited, c .before .before .before .before .before .before .before .before .before .before .before .before .pre .2, c .before .before .before .before .before .before .before .before .before .before .before .before .pre .0 .readers-long, c .before .before .before .before .before .before .before .before .before .before .before .before .pre .0 .kept-long, c .before .before .before .before .before .before .before .before .before .before .before .before .pre .4, c .before .before .before .before .before .before .before .before .before .before .before .before .pre .5, c .before .before .before .before .before .before .before .before .before .before .before .before .pre .6), (c .before .before .before .before .before .before .before .before .before .before .before .before .pre .3, λ T. not-stray (sized (c .before .before .before .before .before .before .before .before .before .before .before .before .args .counts) T) (member 64 (c .before .before .before .before .before .before .before .before .before .before .before .before .args .candidate .now)) (c .before .before .before .before .before .before .before .before .before .before .before .before .args .kept .now) (c .before .before .before .before .before .before .before .before .before .before .before .before .pre .0 .kept-long) (sym (c .before .before .stray-member .ensures (sized (c .before .before .before .before .before .before .before .before .before .before .before .before .args .counts) T)) ∙ c .before .if1 .left)))
+start-requires c κs = ((c .before .before .before .before .before .before .before .before .before .before .before .before .pre .0 .limited, c .before .before .before .before .before .before .before .before .before .before .before .before .pre .2, c .before .before .before .before .before .before .before .before .before .before .before .before .pre .0 .readers-long, c .before .before .before .before .before .before .before .before .before .before .before .before .pre .0 .kept-long, c .before .before .before .before .before .before .before .before .before .before .before .before .pre .4, c .before .before .before .before .before .before .before .before .before .before .before .before .pre .5, c .before .before .before .before .before .before .before .before .before .before .before .before .pre .6), ((c .before .before .before .before .before .before .before .before .before .before .before .before .pre .3, λ T. not-stray (sized (c .before .before .before .before .before .before .before .before .before .before .before .before .args .counts) T) (member 64 (c .before .before .before .before .before .before .before .before .before .before .before .before .args .candidate .now)) (c .before .before .before .before .before .before .before .before .before .before .before .before .args .kept .now) (c .before .before .before .before .before .before .before .before .before .before .before .before .pre .0 .kept-long) (sym (c .before .before .stray-member .ensures (sized (c .before .before .before .before .before .before .before .before .before .before .before .before .args .counts) T)) ∙ c .before .if1 .left)), c .before .before .before .before .before .before .before .before .before .before .before .before .pre .7))
 
 same-length-2 : tie.Need-same-length-2
 same-length-2 c = search needs
