@@ -51,20 +51,12 @@ unfolding wordChanges
 words-most at kept new zero = omega arith
 words-most at kept new (suc i) = omega (arith, words-most at kept new i, word-most (getD kept (at + i) 0) (half new i) _ refl)
 
--- ---- those between two words, summed
-
-module _ (at : ℕ) (kept new : List ℕ) (first i n sum r : ℕ) (p : wordChanges at kept new first + sum ≡ wordChanges at kept new i) (q : wordChanges at kept new i + r ≡ wordChanges at kept new n) where
-  pub sum-more : wordChanges at kept new first + (sum + r) ≡ wordChanges at kept new n
-  sum-more = omega arith
-
-  pub sum-most : sum + r ≤ n * 32
-  sum-most = omega (arith, words-most at kept new n)
+-- ---- those from the first word on, summed
 
 pub all-none : (at : ℕ) (kept new : List ℕ) → 0 ≡ wordChanges at kept new (2 * 0)
 unfolding wordChanges
 all-none at kept new = refl
 
--- and those from the first word on
 module _ (at : ℕ) (kept new : List ℕ) (i n sum r : ℕ) (p : sum ≡ wordChanges at kept new i) (q : wordChanges at kept new i + r ≡ wordChanges at kept new n) where
   pub all-more : sum + r ≡ wordChanges at kept new n
   all-more = omega arith

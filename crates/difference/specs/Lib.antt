@@ -2,3 +2,4 @@ pub mod ChangedLaws
 pub mod Marks
 pub mod PairLaws
 pub mod MarkLaws
+pub mod Found

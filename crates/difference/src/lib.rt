@@ -4,17 +4,23 @@ ghost use mathlib.Core.Bool.{true};
 ghost use Prim.Native.Nat.{_+_, _*_, _/_, _<_, _≤_};
 ghost use lib.ListN.{length, getD};
 ghost use Rattle.theory.specs.Limits.{Limited};
-ghost use Rattle.words.specs.Changed.{changed};
 ghost use Rattle.words.specs.Sets.{member};
 ghost use Rattle.kept.specs.SetOf.{words64};
 ghost use Rattle.kept.specs.Tables.{Tables};
 ghost use Rattle.kept.specs.Layout.{ofWords};
 ghost use Rattle.kept.specs.Check.{changes};
 ghost use Rattle.kept_laws.specs.Given.{usedBy, sized};
-ghost use Rattle.kept_laws.specs.Halves.{half};
 ghost use Rattle.difference.specs.ChangedLaws.{wordChanges};
-ghost use Rattle.difference.specs.Marks.{Same, SameFrom, Upto, Marked};
+ghost use Rattle.difference.specs.Marks.{Same, SameFrom, Upto, Marked, Between};
+ghost use Rattle.difference.specs.Found.{Found};
 use theory::Counts;
+
+// At how many atoms the candidates differ, and the pairs outside which they do not.
+pub struct Differing {
+    pub changes: usize,
+    pub first: usize,
+    pub end: usize,
+}
 
 // Words i and i + 1 as one.
 pub fn pair(kept: &[u32], i: usize) -> u64
@@ -57,7 +63,7 @@ fn pair_changes(candidate: &[u64], kept: &[u32], at: usize, j: usize, marks: &mu
     words::set64::changed(pair(kept, at + 2 * j), candidate[j]) as usize
 }
 
-// At how many atoms pairs `first` to `end` differ; those that do are marked.
+// d, what is found of the pairs before `first`, with pairs `first` to `end` added; those that differ are marked.
 fn pairs_changes(
     candidate: &[u64],
     kept: &[u32],
@@ -65,18 +71,27 @@ fn pairs_changes(
     first: usize,
     end: usize,
     marks: &mut [u64],
-) -> usize
+    d: Differing,
+) -> Differing
     requires { ⌜ (first ≤ end) × (end ≤ 1024) × (end ≤ length (now candidate)) × (at + 2 * end ≤ length (now kept)) × (end ≤ 64 * length (now marks)) ⌝ }
-    ensures { λ r. ⌜ wordChanges at (now (kept .entry)) (now (candidate .entry)) (2 * first) + r ≡ wordChanges at (now (kept .entry)) (now (candidate .entry)) (2 * end) ⌝ }
-    ensures { λ _. ⌜ (Upto at (now (kept .entry)) (now (candidate .entry)) (2 * first) (now (marks .entry)) → Upto at (now (kept .entry)) (now (candidate .entry)) (2 * end) (now (marks .exit))) ⌝ }
+    requires { ⌜ Found at (now kept) (now candidate) (2 * first) (now marks) d ⌝ }
+    ensures { λ r. ⌜ Found at (now (kept .entry)) (now (candidate .entry)) (2 * end) (now (marks .exit)) r × (r .first ≤ d .first) ⌝ }
 {
-    let mut sum = 0;
+    let mut sum = d.changes;
+    let mut low = d.first;
+    let mut high = d.end;
     let mut j = next_changed(candidate, kept, at, first, end);
     while j < end {
         sum = sum + pair_changes(candidate, kept, at, j, marks);
+        low = words::smaller(low, j);
+        high = j + 1;
         j = next_changed(candidate, kept, at, j + 1, end);
     }
-    sum
+    Differing {
+        changes: sum,
+        first: low,
+        end: high,
+    }
 }
 
 // Whether the 16 pairs from `first` on are all the same; no branch in the loop, so that several are compared at once.
@@ -105,7 +120,7 @@ fn same_pairs(candidate: &[u64], kept: &[u32], at: usize, first: usize, end: usi
     same_block(candidate, kept, at, first)
 }
 
-// At how many atoms a block of pairs, `first` to `end`, differs; those that do are marked.
+// The same of a block, 16 pairs at most.
 fn block_changes(
     candidate: &[u64],
     kept: &[u32],
@@ -113,79 +128,84 @@ fn block_changes(
     first: usize,
     end: usize,
     marks: &mut [u64],
-) -> usize
+    d: Differing,
+) -> Differing
     requires { ⌜ (first ≤ end) × (end ≤ first + 16) × (end ≤ 1024) × (end ≤ length (now candidate)) × (at + 2 * end ≤ length (now kept)) × (end ≤ 64 * length (now marks)) ⌝ }
-    ensures { λ r. ⌜ wordChanges at (now (kept .entry)) (now (candidate .entry)) (2 * first) + r ≡ wordChanges at (now (kept .entry)) (now (candidate .entry)) (2 * end) ⌝ }
-    ensures { λ _. ⌜ (Upto at (now (kept .entry)) (now (candidate .entry)) (2 * first) (now (marks .entry)) → Upto at (now (kept .entry)) (now (candidate .entry)) (2 * end) (now (marks .exit))) ⌝ }
+    requires { ⌜ Found at (now kept) (now candidate) (2 * first) (now marks) d ⌝ }
+    ensures { λ r. ⌜ Found at (now (kept .entry)) (now (candidate .entry)) (2 * end) (now (marks .exit)) r × (r .first ≤ d .first) ⌝ }
 {
     if same_pairs(candidate, kept, at, first, end) {
-        return 0;
+        return d;
     }
-    pairs_changes(candidate, kept, at, first, end, marks)
+    pairs_changes(candidate, kept, at, first, end, marks, d)
 }
 
-// The same of all pairs.
-fn all_changes(candidate: &[u64], kept: &[u32], at: usize, pairs: usize, marks: &mut [u64]) -> usize
-    requires { ⌜ (pairs ≤ 1024) × (pairs ≤ length (now candidate)) × (at + 2 * pairs ≤ length (now kept)) × (pairs ≤ 64 * length (now marks)) ⌝ }
-    ensures { λ r. ⌜ r ≡ wordChanges at (now (kept .entry)) (now (candidate .entry)) (2 * pairs) ⌝ }
-    ensures { λ _. ⌜ Upto at (now (kept .entry)) (now (candidate .entry)) (2 * pairs) (now (marks .exit)) ⌝ }
-{
-    let mut sum = 0;
-    let mut j = 0;
-    while j < pairs {
-        let end = words::smaller(j + 16, pairs);
-        sum = sum + block_changes(candidate, kept, at, j, end, marks);
-        j = end;
-    }
-    sum
-}
-
-// At how many atoms word i differs; its pair is marked if it does.
-fn word_changes(candidate: &[u64], kept: &[u32], at: usize, i: usize, marks: &mut [u64]) -> usize
-    requires { ⌜ (i < 2 * length (now candidate)) × (at + i < length (now kept)) × (i / 2 / 64 < length (now marks)) ⌝ }
-    ensures { λ r. ⌜ r ≡ changed 32 (getD (now (kept .entry)) (at + i) 0) (half (now (candidate .entry)) i) ⌝ }
-    ensures { λ _. ⌜ (Upto at (now (kept .entry)) (now (candidate .entry)) i (now (marks .entry)) → Upto at (now (kept .entry)) (now (candidate .entry)) (i + 1) (now (marks .exit))) ⌝ }
-{
-    let new = retained::half_word(candidate, i);
-    if kept[at + i] == new {
-        return 0;
-    }
-    words::set64::insert(marks, i / 2);
-    words::set32::changed(kept[at + i], new) as usize
-}
-
-// At how many atoms words `first` to `words` differ, with marks: those behind the pairs, one at most.
-fn rest_changes(
+// What is found of all pairs.
+fn all_changes(
     candidate: &[u64],
     kept: &[u32],
     at: usize,
-    first: usize,
-    words: usize,
+    pairs: usize,
     marks: &mut [u64],
-) -> usize
-    requires { ⌜ (first ≤ words) × (words ≤ 2048) × (words ≤ 2 * length (now candidate)) × (at + words ≤ length (now kept)) × (words ≤ 128 * length (now marks)) ⌝ }
-    ensures { λ r. ⌜ wordChanges at (now (kept .entry)) (now (candidate .entry)) first + r ≡ wordChanges at (now (kept .entry)) (now (candidate .entry)) words ⌝ }
-    ensures { λ _. ⌜ (Upto at (now (kept .entry)) (now (candidate .entry)) first (now (marks .entry)) → Upto at (now (kept .entry)) (now (candidate .entry)) words (now (marks .exit))) ⌝ }
+) -> Differing
+    requires { ⌜ (pairs ≤ 1024) × (pairs ≤ length (now candidate)) × (at + 2 * pairs ≤ length (now kept)) × (pairs ≤ 64 * length (now marks)) ⌝ }
+    ensures { λ r. ⌜ Found at (now (kept .entry)) (now (candidate .entry)) (2 * pairs) (now (marks .exit)) r × (r .first ≤ pairs) ⌝ }
 {
-    let mut sum = 0;
-    let mut i = first;
-    while i < words {
-        sum = sum + word_changes(candidate, kept, at, i, marks);
-        i += 1;
+    let mut d = Differing {
+        changes: 0,
+        first: pairs,
+        end: 0,
+    };
+    let mut j = 0;
+    while j < pairs {
+        let end = words::smaller(j + 16, pairs);
+        d = block_changes(candidate, kept, at, j, end, marks, d);
+        j = end;
     }
-    sum
+    d
 }
 
-// At how many atoms the candidates differ; the pairs that do are marked. `candidate` is the new one's listed words.
-pub fn difference(counts: Counts, candidate: &[u64], kept: &[u32], marks: &mut [u64]) -> usize
+// d, what is found of the pairs, with the word behind them added: the lower half of one more pair.
+fn last_change(
+    candidate: &[u64],
+    kept: &[u32],
+    at: usize,
+    pairs: usize,
+    marks: &mut [u64],
+    d: Differing,
+) -> Differing
+    requires { ⌜ (pairs ≤ 1024) × (pairs < length (now candidate)) × (at + 2 * pairs < length (now kept)) × (pairs / 64 < length (now marks)) ⌝ }
+    requires { ⌜ Found at (now kept) (now candidate) (2 * pairs) (now marks) d × (d .first ≤ pairs) ⌝ }
+    ensures { λ r. ⌜ Found at (now (kept .entry)) (now (candidate .entry)) (2 * pairs + 1) (now (marks .exit)) r ⌝ }
+{
+    let old = kept[at + 2 * pairs];
+    let new = retained::half_word(candidate, 2 * pairs);
+    if old == new {
+        return d;
+    }
+    words::set64::insert(marks, pairs);
+    let changes = d.changes + (words::set32::changed(old, new) as usize);
+    Differing {
+        changes: changes,
+        first: d.first,
+        end: pairs + 1,
+    }
+}
+
+// The pairs that differ are marked. `candidate` is the new one's listed words.
+pub fn difference(counts: Counts, candidate: &[u64], kept: &[u32], marks: &mut [u64]) -> Differing
     requires { ⌜ Limited counts × (length (now candidate) ≡ words64 (counts .atoms)) × (usedBy counts ≤ length (now kept)) × (words64 (counts .atoms) ≤ 64 * length (now marks)) ⌝ }
-    ensures { λ r. ⌜ ((T : Tables) → r ≡ changes (member 64 (now (candidate .entry))) (ofWords (sized counts T) (now (kept .entry)))) ⌝ }
+    ensures { λ r. ⌜ ((T : Tables) → r .changes ≡ changes (member 64 (now (candidate .entry))) (ofWords (sized counts T) (now (kept .entry)))) ⌝ }
     ensures { λ _. ⌜ Marked counts (now (kept .entry)) (now (candidate .entry)) (now (marks .exit)) ⌝ }
+    ensures { λ r. ⌜ Between counts (now (kept .entry)) (now (candidate .entry)) (r .first) (r .end) ⌝ }
 {
     let n = counts.nodes;
     let at = 8 + n + (n + 31) / 32 + counts.atoms;
     let words = (counts.atoms + 31) / 32;
     let pairs = words / 2;
-    let whole = all_changes(candidate, kept, at, pairs, marks);
-    whole + rest_changes(candidate, kept, at, 2 * pairs, words, marks)
+    let d = all_changes(candidate, kept, at, pairs, marks);
+    if words == 2 * pairs {
+        return d;
+    }
+    last_change(candidate, kept, at, pairs, marks, d)
 }

@@ -1,20 +1,14 @@
-use native.Mathlib.Nat.{add-zero}
-use mathlib.Core.Path.{_∙_}
-use Rattle.difference.specs.PairLaws.{from-adds}
-use Rattle.difference.specs.MarkLaws.{upto-same}
+use native.Mathlib.Omega.{arith}
+use Rattle.difference.specs.Found.{found-same}
 use borrow.Author.Needs.{needs}
 use Rattle.difference.proofs.block_changes.Statement.{statement}
 use Rattle.difference.proofs.block_changes.Tie as tie
-use Rattle.difference.proofs.block_changes.Reads as reads
-use Rattle.difference.proofs.block_changes.Lts as lts
-use Rattle.difference.proofs.pairs_changes.Reads as pairs-changes-reads
-use Rattle.difference.proofs.same_pairs.Reads as same-pairs-reads
 
 same-pairs-requires : tie.Need-same-pairs-requires
 same-pairs-requires c κs = search needs
 
 returns : tie.Need-returns
-returns c = (add-zero _ ∙ from-adds (c .before .before .before .before .before .args .at) (c .before .before .before .before .before .args .kept .now) (c .before .before .before .before .before .args .candidate .now) (c .before .before .before .before .before .args .first) (c .before .before .before .before .before .args .end) (c .before .before .before .before .before .pre .0) (c .before .same-pairs .ensures (c .if1 .taken)), upto-same (c .before .before .before .before .before .args .at) (c .before .before .before .before .before .args .kept .now) (c .before .before .before .before .before .args .candidate .now) (c .before .before .before .before .before .args .first) (c .before .before .before .before .before .args .end) (c .before .before .before .before .before .args .marks .now) (c .before .same-pairs .ensures (c .if1 .taken)))
+returns c = (found-same (c .before .before .before .before .before .args .at) (c .before .before .before .before .before .args .kept .now) (c .before .before .before .before .before .args .candidate .now) (c .before .before .before .before .before .args .first) (c .before .before .before .before .before .args .end) (c .before .before .before .before .before .args .marks .now) (c .before .before .before .before .before .args .d) (c .before .before .before .before .before .pre .0 .0) (c .before .same-pairs .ensures (c .if1 .taken)) (c .before .before .before .before .before .pre .1), omega arith)
 
 pairs-changes-requires : tie.Need-pairs-changes-requires
 pairs-changes-requires c κs = search needs

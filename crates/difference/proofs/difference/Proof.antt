@@ -1,15 +1,9 @@
-use Prim.Native.Nat.{_+_, _/_}
+use Prim.Native.Nat.{_+_, _*_, _/_}
 use native.Mathlib.Omega.{arith}
-use mathlib.Core.Path.{refl}
-use Rattle.kept_laws.specs.Given.{candidateAt, sized}
-use Rattle.difference.specs.ChangedLaws.{all-more, all-most, words-changes}
+use Rattle.difference.specs.Found.{found-all}
 use borrow.Author.Needs.{needs}
 use Rattle.difference.proofs.difference.Statement.{statement}
 use Rattle.difference.proofs.difference.Tie as tie
-use Rattle.difference.proofs.difference.Reads as reads
-use Rattle.difference.proofs.difference.Lts as lts
-use Rattle.difference.proofs.all_changes.Reads as all-changes-reads
-use Rattle.difference.proofs.rest_changes.Reads as rest-changes-reads
 
 add-at : tie.Need-add-at
 add-at c = search needs
@@ -27,22 +21,25 @@ add-words : tie.Need-add-words
 add-words c = search needs
 
 all-changes-requires : tie.Need-all-changes-requires
-all-changes-requires c κs = (omega (arith, c .before .before .before .before .before .before .pre .0 .atoms), omega (arith, c .before .before .before .before .before .before .pre .1), omega (arith, c .before .before .before .before .before .before .pre .2), omega (arith, c .before .before .before .before .before .before .pre .3))
+all-changes-requires c κs = search needs
 
-mul-rest-changes : tie.Need-mul-rest-changes
-mul-rest-changes c = search needs
-
-rest-changes-requires : tie.Need-rest-changes-requires
-rest-changes-requires c κs = search needs
-
-add-result : tie.Need-add-result
-add-result c = omega (arith, c .before .before .before .before .before .before .before .before .before .before .before .before .before .pre .0 .atoms, all-most _ _ _ _ _ _ _ (c .before .before .before .before .before .before .all-changes .ensures .0) (c .before .before .rest-changes .ensures .0))
+mul-if1 : tie.Need-mul-if1
+mul-if1 c = search needs
 
 same-length : tie.Need-same-length
 same-length c = search needs
 
 returns : tie.Need-returns
-returns c = (λ T. words-changes (sized (c .before .before .before .before .before .before .before .before .before .before .before .before .before .args .counts) T) (c .before .before .before .before .before .before .before .before .before .before .before .before .before .args .kept .now) (c .before .before .before .before .before .before .before .before .before .before .before .before .before .args .candidate .now) (c .before .before .before .before .before .before .before .before .before .before .before .before .before .pre .2) _ ((c .before .before .before .before .before .before .before .before .before .before .before .before .before .args .counts .atoms + 31) / 32) (all-more (candidateAt (c .before .before .before .before .before .before .before .before .before .before .before .before .before .args .counts)) (c .before .before .before .before .before .before .before .before .before .before .before .before .before .args .kept .now) (c .before .before .before .before .before .before .before .before .before .before .before .before .before .args .candidate .now) _ _ _ _ (c .before .before .before .before .before .before .all-changes .ensures .0) (c .before .before .rest-changes .ensures .0)) refl, c .before .before .rest-changes .ensures .1 (c .before .before .before .before .before .before .all-changes .ensures .1))
+returns c = found-all (c .before .before .before .before .before .before .before .before .before .before .args .counts) (c .before .before .before .before .before .before .before .before .before .before .args .kept .now) (c .before .before .before .before .before .before .before .before .before .before .args .candidate .now) _ _ (2 * ((c .before .before .before .before .before .before .before .before .before .before .args .counts .atoms + 31) / 32 / 2)) (omega (arith, c .if1 .taken)) (c .before .before .before .before .before .before .before .before .before .before .pre .2) (c .before .before .before .all-changes .ensures .0)
+
+last-change-requires : tie.Need-last-change-requires
+last-change-requires c κs = search needs
+
+same-length-2 : tie.Need-same-length-2
+same-length-2 c = search needs
+
+returns-2 : tie.Need-returns-2
+returns-2 c = found-all (c .before .before .before .before .before .before .before .before .before .before .before .before .before .before .args .counts) (c .before .before .before .before .before .before .before .before .before .before .before .before .before .before .args .kept .now) (c .before .before .before .before .before .before .before .before .before .before .before .before .before .before .args .candidate .now) _ _ (2 * ((c .before .before .before .before .before .before .before .before .before .before .before .before .before .before .args .counts .atoms + 31) / 32 / 2) + 1) (omega (arith, c .before .before .before .before .if1 .left)) (c .before .before .before .before .before .before .before .before .before .before .before .before .before .before .pre .2) (c .before .before .last-change .ensures)
 
 pub difference-spec : {M : Type 1} → statement M
 difference-spec =
@@ -54,8 +51,9 @@ difference-spec =
     add-at-4
     add-words
     all-changes-requires
-    mul-rest-changes
-    rest-changes-requires
-    add-result
+    mul-if1
     same-length
-    returns)
+    returns
+    last-change-requires
+    same-length-2
+    returns-2)
