@@ -1,6 +1,6 @@
 -- A check from the parts that calls answer and leave.
 -- Assumes nothing.
-use Prim.Native.Nat.{ℕ, _<_, _≤_, _+_, _-_, _*_, _/_, max}
+use Prim.Native.Nat.{ℕ, suc, _<_, _≤_, _+_, _-_, _*_, _/_, max}
 use native.Mathlib.Omega.{arith}
 use mathlib.Core.Path.{_≡_, ap, ap₂, sym, _∙_}
 use mathlib.Core.Bool.{true, false}
@@ -8,7 +8,7 @@ use mathlib.Core.List.{List, _++_}
 use lib.Dec.{leb}
 use lib.ListN.{length, getD, drop, replicate}
 use lib.Seq.{drop-drop}
-use borrow.Author.Tests.{eq-eqb, ne-eqb, lt-ltb, le-ltb}
+use borrow.Author.Tests.{eq-eqb, ne-eqb, lt-ltb, le-ltb, lt-leb, le-leb}
 use Rattle.formula.specs.Satisfaction.{Interpretation}
 use Rattle.formula.specs.Passes.{Within}
 use Rattle.readers.specs.ReaderTable.{readerWords}
@@ -16,6 +16,7 @@ use Rattle.theory.specs.Admission.{orElse}
 use Rattle.theory.specs.Limits.{limitsOf, Limited}
 use Rattle.theory.specs.LimitsLaws.{within-limits}
 use Rattle.theory.specs.Refusals.{or-else-left}
+use Rattle.theory.specs.declared.Counts.{Counts}
 use Rattle.theory.specs.declared.Admission.{Admission}
 use Rattle.theory.specs.declared.Admission.the-variants.{Admitted, Refused}
 use Rattle.theory.specs.declared.Refusal.{Refusal}
@@ -27,7 +28,8 @@ use Rattle.kept.specs.Evaluation as evaluation
 use Rattle.kept.specs.Evaluation.{Evaluation}
 use Rattle.kept.specs.Verdict.{verdictOf}
 use Rattle.kept.specs.VerdictLaws.{verdict-fresh}
-use Rattle.kept.specs.Walk.{keptWalk}
+use Rattle.kept.specs.Walk.{walk, keptWalk}
+use Rattle.kept.specs.WalkLaws.{fresh-idle}
 use Rattle.kept.specs.Check as check
 use Rattle.kept.specs.Check.{Result, tablesAdmission, freshResult, keptResult, changes, isKept, result}
 use Rattle.kept.specs.Layout.{ofWords, written, used, listed}
@@ -37,15 +39,19 @@ use Rattle.kept.specs.Tests.{buffers, firstShort, stamps, strayBit, tests}
 use Rattle.kept.specs.TestLaws.{atoms-within, lent-long}
 use Rattle.kept.specs.Outcome as outcomes
 use Rattle.kept.specs.Outcome.{cleared, outcomeAt, outcome}
+use Rattle.kept_laws.specs.Turns.{resumed, walk-done}
 use Rattle.kept_laws.specs.Written.{of-written}
 use Rattle.kept_laws.specs.Wrote.{Beside, beside-same}
 use Rattle.complete.specs.Laid.{Laid}
+use Rattle.difference.specs.Marks.{Marked, Between}
 use Rattle.verdict.specs.declared.Verdict as verdicts
 use Rattle.update.specs.declared.Checked as checks
 use Rattle.update.specs.declared.Checked.the-variants as cases
-use Rattle.update.specs.Results.{answerOf, answerIn, Results}
-use Rattle.update.specs.ResultsLaws.{refused-results, concluded-results, results-by}
-use Rattle.evaluate.specs.Checks.{outcomeOf, settled}
+use Rattle.update.specs.Results.{Results}
+use Rattle.update.specs.ResultsLaws.{refused-results, results-by, results-then}
+use Rattle.evaluate.specs.declared.Change.{Change}
+use Rattle.evaluate.specs.declared.Change.the-variants.{Few, Fresh}
+use Rattle.evaluate.specs.Checks.{keepsBy, Spans, outcomeOf, settled}
 
 -- ---- what the tests give
 
@@ -78,6 +84,9 @@ passed T c size e =
 
 -- ---- whether it is kept
 
+pub spans-few : (t : Counts) (kept new marks : List ℕ) (r : Change) (first end : ℕ) → Spans t kept new marks r → r ≡ Few first end → Marked t kept new marks × Between t kept new first end
+spans-few t kept new marks r first end s p = rw p at s
+
 module _ (T : Tables) (J : Interpretation) (ws : List ℕ) where
   abbrev e : Evaluation
   e = ofWords T ws
@@ -90,9 +99,24 @@ module _ (T : Tables) (J : Interpretation) (ws : List ℕ) where
   unfolding isKept ofWords
   not-mine p h = sym (rw (eq-eqb (getD ws 0 0) 1 p, ne-eqb (getD ws 1 0) (T .counts .stamp) h))
 
-  pub kept-by : (n m : ℕ) → getD ws 0 0 ≡ 1 → getD ws 1 0 ≡ T .counts .stamp → n ≡ changes J e → m ≡ max 64 (atomCount T / 8) → leb n m ≡ isKept 64 8 T J e
-  unfolding isKept ofWords
-  kept-by n m p s q r = sym (rw (eq-eqb (getD ws 0 0) 1 p, eq-eqb (getD ws 1 0) (T .counts .stamp) s, q, r))
+  module _ (n m : ℕ) (p : getD ws 0 0 ≡ 1) (s : getD ws 1 0 ≡ T .counts .stamp) (q : n ≡ changes J e) (r : m ≡ max 64 (atomCount T / 8)) where
+    counted : isKept 64 8 T J e ≡ leb n m
+    unfolding isKept ofWords
+    counted = rw (eq-eqb (getD ws 0 0) 1 p, eq-eqb (getD ws 1 0) (T .counts .stamp) s, q, r)
+
+    pub many-changed : m < n → false ≡ isKept 64 8 T J e
+    many-changed l = sym (counted ∙ lt-leb n m l)
+
+    pub few-changed : n ≤ m → true ≡ isKept 64 8 T J e
+    few-changed l = sym (counted ∙ le-leb n m l)
+
+  -- by the case that the comparison answers
+  module _ (r : Change) (k : keepsBy r ≡ isKept 64 8 T J e) where
+    pub kept-few : (first end : ℕ) → r ≡ Few first end → isKept 64 8 T J e ≡ true
+    kept-few first end p = sym k ∙ ap keepsBy p
+
+    pub kept-fresh : r ≡ Fresh → isKept 64 8 T J e ≡ false
+    kept-fresh p = sym k ∙ ap keepsBy p
 
   -- ---- fresh
 
@@ -101,16 +125,19 @@ module _ (T : Tables) (J : Interpretation) (ws : List ℕ) where
     unfolding freshResult
     fresh-refused x p = refused-results T ws (freshResult T J (tablesAdmission T J)) x mid (rw (sym (laid .0) ∙ p)) (laid .2)
 
-    pub fresh-done : r ≡ Admitted → (c : checks.Checked) → ((d : Evaluation) → answerOf c ≡ answerIn (check.concluded (verdictOf T (ofWords T mid)) (nodeCount T) d))
-        → Results T ws (freshResult T J (tablesAdmission T J)) c mid
+    -- and the walk goes on from it, with nothing left
+    pub fresh-done : r ≡ Admitted → (c : checks.Checked) (after : List ℕ) → Results T mid (resumed T (nodeCount T) (walk T (suc (nodeCount T)) (ofWords T mid))) c after
+        → Results T ws (freshResult T J (tablesAdmission T J)) c after
     unfolding freshResult
-    fresh-done p c a =
+    fresh-done p c after h =
         let put : mid ≡ written T ws (evaluation.fresh T J) = laid .1 (sym (laid .0) ∙ p) in
         let holds : ofWords T mid ≡ evaluation.fresh T J = ap (ofWords T) put ∙ of-written T ws long (evaluation.fresh T J) (fits-fresh T J) in
-        concluded-results T ws (freshResult T J (tablesAdmission T J)) (verdictOf T (evaluation.fresh T J)) (nodeCount T) (evaluation.fresh T J) c mid long (fits-fresh T J)
-        (rw (sym (laid .0) ∙ p, verdict-fresh T J))
-        (a (evaluation.fresh T J) ∙ ap (λ y. answerIn (check.concluded (verdictOf T y) (nodeCount T) (evaluation.fresh T J))) holds)
-        put
+        results-by T ws (freshResult T J (tablesAdmission T J)) (resumed T (nodeCount T) (walk T (suc (nodeCount T)) (ofWords T mid))) c after
+        (ap (freshResult T J) (sym (laid .0) ∙ p)
+        ∙ ap (λ o. check.concluded o (nodeCount T) (evaluation.fresh T J)) (sym (verdict-fresh T J))
+        ∙ sym (walk-done T (nodeCount T) (evaluation.fresh T J) (fresh-idle T J))
+        ∙ ap (λ y. resumed T (nodeCount T) (walk T (suc (nodeCount T)) y)) (sym holds))
+        (results-then T ws mid (evaluation.fresh T J) long (fits-fresh T J) put (resumed T (nodeCount T) (walk T (suc (nodeCount T)) (ofWords T mid))) c after h)
 
   -- ---- one of the two
 

@@ -1,6 +1,5 @@
 // The public check of a candidate (`check` and `evaluate` of tight/evaluate.rs): kept where a check of this stamp is held and few atoms changed, else fresh.
 ghost use mathlib.Core.Path.{_≡_};
-ghost use mathlib.Core.Bool.{true};
 ghost use Prim.Native.Nat.{_+_, _*_, _/_, _≤_, max};
 ghost use lib.ListN.{length};
 ghost use Rattle.formula.specs.Passes.{Within};
@@ -12,10 +11,9 @@ ghost use Rattle.kept.specs.Tables.{Tables};
 ghost use Rattle.kept.specs.Layout.{ofWords};
 ghost use Rattle.kept.specs.Check.{freshResult, tablesAdmission, isKept, result};
 ghost use Rattle.kept.specs.Outcome.{outcome};
-ghost use Rattle.kept_laws.specs.Given.{usedBy, sized, planned};
-ghost use Rattle.difference.specs.Marks.{Marked};
+ghost use Rattle.kept_laws.specs.Given.{usedBy, sized};
 ghost use Rattle.update.specs.Results.{lent, Results};
-ghost use Rattle.evaluate.specs.Checks.{Lent, tablesOf, candidateOf, outcomeOf, settled};
+ghost use Rattle.evaluate.specs.Checks.{Lent, keepsBy, Spans, tablesOf, candidateOf, outcomeOf, settled};
 use tests::Lengths;
 use theory::Admission;
 use theory::Counts;
@@ -28,22 +26,32 @@ pub struct Plan {
     pub producers: usize,
 }
 
-// Whether a check of this stamp is held and at most max(64, atoms / 8) atoms changed; then the pairs of words that differ are marked.
-fn is_kept(counts: Counts, candidate: &[u64], kept: &[u32], marks: &mut [u64]) -> bool
-    requires { ⌜ Limited counts × (length (now candidate) ≡ words64 (counts .atoms)) × (usedBy counts ≤ length (now kept)) × (words64 (counts .atoms) ≤ 64 * length (now marks)) ⌝ }
-    ensures { λ r. ⌜ ((T : Tables) → r ≡ isKept 64 8 (sized counts T) (member 64 (now (candidate .entry))) (ofWords (sized counts T) (now (kept .entry)))) ⌝ }
-    ensures { λ r. ⌜ (r ≡ true → Marked counts (now (kept .entry)) (now (candidate .entry)) (now (marks .exit))) ⌝ }
-{
-    if kept[0] != 1 {
-        return false;
-    }
-    if kept[1] != counts.stamp {
-        return false;
-    }
-    difference::difference(counts, candidate, kept, marks) <= words::greater(64, counts.atoms / 8)
+// Few atoms changed, and only in pairs of words `first` to `end`: the check is kept. Or it is fresh.
+pub enum Change {
+    Few(usize, usize),
+    Fresh,
 }
 
-// A fresh check: the evaluation laid anew, then the verdict.
+// Whether a check of this stamp is held and at most max(64, atoms / 8) atoms changed; then the pairs of words that differ are marked.
+fn compare(counts: Counts, candidate: &[u64], kept: &[u32], marks: &mut [u64]) -> Change
+    requires { ⌜ Limited counts × (length (now candidate) ≡ words64 (counts .atoms)) × (usedBy counts ≤ length (now kept)) × (words64 (counts .atoms) ≤ 64 * length (now marks)) ⌝ }
+    ensures { λ r. ⌜ ((T : Tables) → keepsBy r ≡ isKept 64 8 (sized counts T) (member 64 (now (candidate .entry))) (ofWords (sized counts T) (now (kept .entry)))) ⌝ }
+    ensures { λ r. ⌜ Spans counts (now (kept .entry)) (now (candidate .entry)) (now (marks .exit)) r ⌝ }
+{
+    if kept[0] != 1 {
+        return Change::Fresh;
+    }
+    if kept[1] != counts.stamp {
+        return Change::Fresh;
+    }
+    let d = difference::difference(counts, candidate, kept, marks);
+    if d.changes > words::greater(64, counts.atoms / 8) {
+        return Change::Fresh;
+    }
+    Change::Few(d.first, d.end)
+}
+
+// A fresh check: the evaluation laid anew, on which nothing waits, then the verdict.
 fn fresh(
     counts: Counts,
     made: usize,
@@ -52,10 +60,11 @@ fn fresh(
     operands: &[u32],
     roots: &[u32],
     producers: &[u32],
+    readers: &[u64],
     kept: &mut [u32],
 ) -> Checked
-    requires { ⌜ Lent counts (length (now candidate)) (length (now nodes)) (length (now operands)) (length (now roots)) (length (now producers)) (length (now kept)) × (made ≤ counts .roots) × Within (counts .atoms) (member 64 (now candidate)) ⌝ }
-    ensures { λ r. ⌜ ((T : Tables) → Results (planned counts made (now (nodes .entry)) (now (operands .entry)) (now (roots .entry)) (now (producers .entry)) T) (now (kept .entry)) (freshResult (planned counts made (now (nodes .entry)) (now (operands .entry)) (now (roots .entry)) (now (producers .entry)) T) (member 64 (now (candidate .entry))) (tablesAdmission (planned counts made (now (nodes .entry)) (now (operands .entry)) (now (roots .entry)) (now (producers .entry)) T) (member 64 (now (candidate .entry))))) r (now (kept .exit))) ⌝ }
+    requires { ⌜ Lent counts (length (now candidate)) (length (now nodes)) (length (now operands)) (length (now roots)) (length (now producers)) (length (now kept)) × (readerWords counts ≤ length (now readers)) × (made ≤ counts .roots) × Within (counts .atoms) (member 64 (now candidate)) ⌝ }
+    ensures { λ r. ⌜ ((T : Tables) → Results (lent counts made (now (nodes .entry)) (now (operands .entry)) (now (roots .entry)) (now (producers .entry)) (now (readers .entry)) T) (now (kept .entry)) (freshResult (lent counts made (now (nodes .entry)) (now (operands .entry)) (now (roots .entry)) (now (producers .entry)) (now (readers .entry)) T) (member 64 (now (candidate .entry))) (tablesAdmission (lent counts made (now (nodes .entry)) (now (operands .entry)) (now (roots .entry)) (now (producers .entry)) (now (readers .entry)) T) (member 64 (now (candidate .entry))))) r (now (kept .exit))) ⌝ }
 {
     match complete::complete(
         counts,
@@ -68,7 +77,17 @@ fn fresh(
         kept,
     ) {
         Admission::Refused(r) => Checked::Refused(r),
-        Admission::Admitted => update::told(verdict::judge(counts, roots, kept), counts.nodes),
+        Admission::Admitted => update::walk(
+            counts,
+            made,
+            nodes,
+            operands,
+            roots,
+            producers,
+            readers,
+            kept,
+            counts.nodes,
+        ),
     }
 }
 
@@ -88,8 +107,8 @@ fn evaluate_with(
     requires { ⌜ Lent counts (length (now candidate)) (length (now nodes)) (length (now operands)) (length (now roots)) (length (now producers)) (length (now kept)) × (readerWords counts ≤ length (now readers)) × Within (counts .atoms) (member 64 (now candidate)) × (made ≤ counts .roots) × (words64 (counts .atoms) ≤ 64 * length (now marks)) × (length (now marks) ≤ 16) ⌝ }
     ensures { λ r. ⌜ ((T : Tables) → Results (lent counts made (now (nodes .entry)) (now (operands .entry)) (now (roots .entry)) (now (producers .entry)) (now (readers .entry)) T) (now (kept .entry)) (result 64 8 (lent counts made (now (nodes .entry)) (now (operands .entry)) (now (roots .entry)) (now (producers .entry)) (now (readers .entry)) T) (member 64 (now (candidate .entry))) (ofWords (lent counts made (now (nodes .entry)) (now (operands .entry)) (now (roots .entry)) (now (producers .entry)) (now (readers .entry)) T) (now (kept .entry)))) r (now (kept .exit))) ⌝ }
 {
-    if is_kept(counts, candidate, kept, marks) {
-        update::update(
+    match compare(counts, candidate, kept, marks) {
+        Change::Few(first, end) => update::update(
             counts,
             made,
             candidate,
@@ -100,9 +119,10 @@ fn evaluate_with(
             readers,
             kept,
             marks,
-        )
-    } else {
-        fresh(
+            first,
+            end,
+        ),
+        Change::Fresh => fresh(
             counts,
             made,
             candidate,
@@ -110,8 +130,9 @@ fn evaluate_with(
             operands,
             roots,
             producers,
+            readers,
             kept,
-        )
+        ),
     }
 }
 
@@ -134,7 +155,6 @@ fn evaluate(
         return Checked::Refused(Refusal::BadEntry(0));
     }
     let mut marks = [0u64; 16];
-    let size = (candidate.len() + 63) / 64;
     evaluate_with(
         counts,
         made,
@@ -145,7 +165,7 @@ fn evaluate(
         producers,
         readers,
         kept,
-        &mut marks[..size],
+        &mut marks[..],
     )
 }
 
