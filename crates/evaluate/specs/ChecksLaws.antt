@@ -26,7 +26,6 @@ use Rattle.kept.specs.SetOf.{words64}
 use Rattle.kept.specs.Tables.{Tables, atomCount, nodeCount, rootCount}
 use Rattle.kept.specs.Evaluation as evaluation
 use Rattle.kept.specs.Evaluation.{Evaluation}
-use Rattle.kept.specs.Verdict.{verdictOf}
 use Rattle.kept.specs.VerdictLaws.{verdict-fresh}
 use Rattle.kept.specs.Walk.{walk, keptWalk}
 use Rattle.kept.specs.WalkLaws.{fresh-idle}

@@ -32,7 +32,7 @@ pub enum Checked {
 }
 
 // A verdict after n nodes.
-pub fn told(judged: Judged, n: usize) -> Checked
+fn told(judged: Judged, n: usize) -> Checked
     ensures { λ r. ⌜ ((e : Evaluation) → answerOf r ≡ answerIn (concluded (judgedOf judged) n e)) ⌝ }
 {
     match judged {
