@@ -2,7 +2,7 @@
 -- Assumes nothing.
 use Prim.Native.Nat.{ℕ, _<_}
 use mathlib.Core.Path.{_≡_, refl, ap, ap₂, sym, _∙_}
-use mathlib.Core.Bool.{Bool, true, false, not, _&&_}
+use mathlib.Core.Bool.{Bool, true, false, not, cond, _&&_, _||_}
 use mathlib.Core.List.{List, [], _∷_, _++_}
 use mathlib.Core.Option.{Option, some, none}
 use lib.Dec.{eqb}
@@ -10,15 +10,17 @@ use lib.ListN.{getD, set}
 use borrow.Author.Tests.{lt-ltb}
 use Rattle.readers.specs.declared.Reading.the-variants.{Node, Producer, Root}
 use Rattle.readers.specs.Reader.{readingOf}
-use Rattle.kept.specs.Tabulate.{updated, updated-here, updated-there, updated-is, tabulate-at, tabulate-agree, tabulate-set}
+use Rattle.kept.specs.Tabulate.{updated, updated-here, updated-there, updated-is, updated-same, tabulate-at, tabulate-agree, tabulate-set}
+use Rattle.words.specs.Sets.{member}
+use Rattle.kept.specs.SetOf.{setOf}
 use Rattle.kept.specs.SetOfLaws.{member-below, setOf-agree}
-use Rattle.kept.specs.CountedSet.{andThen, withBit, withMember, moved}
+use Rattle.kept.specs.CountedSet.{andThen, countedSet, withBit, withMember, moved}
 use Rattle.kept.specs.CountedSetLaws.{counted-agree, bit-set, member-set}
 use Rattle.kept.specs.WorklistLaws.{worklist-same, node-entered}
 use Rattle.kept.specs.Tables.{Tables, atomCount, nodeCount, rootCount, headAt}
 use Rattle.kept.specs.Evaluation.{Evaluation, truthAt, present, truthWord, held}
 use Rattle.kept.specs.Parts.{withTruths, withSupport, withCandidate, withFalseRoots}
-use Rattle.kept.specs.Step.{entered, supportMoved, rootTurned, readerUpdated, readersUpdated}
+use Rattle.kept.specs.Step.{entered, missingBy, supportMoved, rootTurned, readerUpdated, readersUpdated}
 
 module _ (T : Tables) where
   pub held-agree : (v v′ w w′ : ℕ → Bool) (s s′ : ℕ → ℕ) (c c′ f f′ : ℕ → Bool)
@@ -90,14 +92,38 @@ module _ (T : Tables) where
         updated-is (λ a. c a && eqb (s a) 0) (λ j. c j && eqb (updated s a n j) 0) a (c a && eqb n 0) (ap (λ x. c a && eqb x 0) (sym (updated-here s a n)))
         (λ j h. ap (λ x. c j && eqb x 0) (sym (updated-there s a n j h)))
 
+    missing-by : (a n : ℕ) → a < atomCount T → missingBy T a (s a) n (held T v w s c f) ≡ some (countedSet (λ j. c j && eqb (updated s a n j) 0) (atomCount T))
+    unfolding missingBy held
+    missing-by a n l = go (eqb (s a) 0) (eqb n 0) refl refl
+      where
+        lacks : ℕ → Bool
+        lacks j = c j && eqb (s j) 0
+
+        later : ℕ → Bool
+        later j = c j && eqb (updated s a n j) 0
+
+        turned : (x y : Bool) → x || y ≡ true → eqb n 0 ≡ y
+            → cond (x || y) (withMember (atomCount T) (countedSet lacks (atomCount T)) a (member 32 (setOf c (atomCount T)) a && y)) (some (countedSet lacks (atomCount T)))
+            ≡ some (countedSet later (atomCount T))
+        turned x y b q =
+            rw (b, member-below c (atomCount T) a l, ← q, member-set lacks (atomCount T) a (c a && eqb n 0) l)
+            (ap some (counted-agree (updated lacks a (c a && eqb n 0)) later (atomCount T) (λ j i. missing-supported a n j)))
+
+        go : (x y : Bool) → eqb (s a) 0 ≡ x → eqb n 0 ≡ y
+            → cond (x || y) (withMember (atomCount T) (countedSet lacks (atomCount T)) a (member 32 (setOf c (atomCount T)) a && y)) (some (countedSet lacks (atomCount T)))
+            ≡ some (countedSet later (atomCount T))
+        go true y p q = turned true y refl q
+        go false true p q = turned false true refl q
+        go false false p q =
+            ap some (counted-agree lacks later (atomCount T)
+            (λ j i. sym (updated-same lacks a (c a && eqb n 0) (ap (λ b. c a && b) (p ∙ sym q)) j) ∙ missing-supported a n j))
+
     pub supports-held : (a n : ℕ) → a < atomCount T
-        → andThen (withMember (atomCount T) (held T v w s c f .missing) a (present (held T v w s c f) a && eqb n 0)) (λ m. some (withSupport (held T v w s c f) (set (held T v w s c f .support) a n) m))
+        → andThen (missingBy T a (s a) n (held T v w s c f)) (λ m. some (withSupport (held T v w s c f) (set (held T v w s c f .support) a n) m))
         ≡ some (held T v w (updated s a n) c f)
     unfolding held
     supports-held a n l =
-        rw (member-below c (atomCount T) a l, member-set (λ a. c a && eqb (s a) 0) (atomCount T) a (c a && eqb n 0) l)
-        (ap₂ (λ x y. some (withSupport (held T v w s c f) x y)) (tabulate-set (atomCount T) s a n)
-        (counted-agree (updated (λ a. c a && eqb (s a) 0) a (c a && eqb n 0)) (λ j. c j && eqb (updated s a n j) 0) (atomCount T) (λ j i. missing-supported a n j)))
+        rw (missing-by a n l) (ap (λ x. some (withSupport (held T v w s c f) x (countedSet (λ j. c j && eqb (updated s a n j) 0) (atomCount T)))) (tabulate-set (atomCount T) s a n))
 
     missing-turned : (a : ℕ) (x : Bool) (j : ℕ) → updated (λ a. c a && eqb (s a) 0) a (x && eqb (s a) 0) j ≡ updated c a x j && eqb (s j) 0
     missing-turned a x =

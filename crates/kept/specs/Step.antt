@@ -1,7 +1,7 @@
 -- One step of a kept check: the lowest node on the worklist gets its truth, and if that changed its readers are told.
 -- Assumes nothing.
 use Prim.Native.Nat.{ℕ}
-use mathlib.Core.Bool.{Bool, not, cond, _&&_}
+use mathlib.Core.Bool.{Bool, not, cond, _&&_, _||_}
 use mathlib.Core.List.{List, [], _∷_}
 use mathlib.Core.Option.{Option, some, none}
 use lib.Dec.{eqb, ltb}
@@ -10,7 +10,7 @@ use Rattle.words.specs.Changed.{unlike}
 use Rattle.readers.specs.declared.Reading.{Reading}
 use Rattle.readers.specs.declared.Reading.the-variants.{Node, Producer, Root, Unknown}
 use Rattle.readers.specs.Reader.{readingOf}
-use Rattle.kept.specs.CountedSet.{andThen, moved, withMember}
+use Rattle.kept.specs.CountedSet.{CountedSet, andThen, moved, withMember}
 use Rattle.kept.specs.Worklist.{Worklist, withNode, withoutFirst}
 use Rattle.kept.specs.Tables.{Tables, atomCount, nodeCount, rootCount, headAt, readersAt}
 use Rattle.kept.specs.Seen.{seenBy}
@@ -23,11 +23,15 @@ use Rattle.kept.specs.Parts.{withTruths, withWorklist, withSupport, with
 unfoldable pub entered : Tables → ℕ → Evaluation → Option Evaluation
 entered T m e = andThen (withNode (nodeCount T) (e .worklist) m) (λ w. some (withWorklist e w))
 
+-- the missing atoms once the support of atom a has gone from s to n: looked at only where one of the two is 0
+unfoldable pub missingBy : Tables → ℕ → ℕ → ℕ → Evaluation → Option CountedSet
+missingBy T a s n e = cond (eqb s 0 || eqb n 0) (withMember (atomCount T) (e .missing) a (present e a && eqb n 0)) (some (e .missing))
+
 -- a producer of atom a: one more or less with a true body
 unfoldable pub supportMoved : Tables → Bool → ℕ → Evaluation → Option Evaluation
 supportMoved T t a e =
     andThen (moved (T .made) t (getD (e .support) a 0)) (λ n.
-    andThen (withMember (atomCount T) (e .missing) a (present e a && eqb n 0)) (λ m. some (withSupport e (set (e .support) a n) m)))
+    andThen (missingBy T a (getD (e .support) a 0) n e) (λ m. some (withSupport e (set (e .support) a n) m)))
 
 -- root position r
 unfoldable pub rootTurned : Tables → Bool → ℕ → Evaluation → Option Evaluation

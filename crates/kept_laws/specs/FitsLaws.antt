@@ -3,7 +3,7 @@
 use Prim.Native.Nat.{ℕ, zero, suc, _<_, _*_, _/_}
 use native.Mathlib.Omega.{arith}
 use mathlib.Core.Path.{_≡_, refl, ap, sym, _∙_}
-use mathlib.Core.Bool.{Bool, true, false, not, cond, _&&_}
+use mathlib.Core.Bool.{Bool, true, false, not, cond, _&&_, _||_}
 use mathlib.Core.List.{List, [], _∷_}
 use mathlib.Core.Option.{Option, some, none}
 use lib.Dec.{eqb, ltb}
@@ -25,7 +25,7 @@ use Rattle.kept.specs.Worklist.{Worklist, withFirst, behind, alone, withNode, f
 use Rattle.kept.specs.Tables.{Tables, atomCount, nodeCount, rootCount, headAt, readersAt, atomNodesAt}
 use Rattle.kept.specs.Evaluation.{Evaluation, truthAt, present, truthWord}
 use Rattle.kept.specs.Parts.{withTruths, withWorklist, withSupport, withCandidate, withFalseRoots}
-use Rattle.kept.specs.Step.{entered, supportMoved, rootTurned, readerUpdated, readersUpdated, took, tookAt, settled, settledFrom, seen, idle, fault, stepAt, step}
+use Rattle.kept.specs.Step.{entered, missingBy, supportMoved, rootTurned, readerUpdated, readersUpdated, took, tookAt, settled, settledFrom, seen, idle, fault, stepAt, step}
 use Rattle.kept.specs.Start.{allEntered, atomTurned, atomUpdated, walkStart}
 use Rattle.kept.specs.LayoutLaws.{Fits}
 
@@ -172,13 +172,21 @@ module _ (T : Tables) where
       let i : t .0 .first ≡ d .worklist .first = ap (λ y. y .worklist .first) (some-is (withWorklist e (t .0)) d (t .2)) in
       omega (arith, i, node-is (nodeCount T) (e .worklist) m (t .0) (t .1) .1 k l a)
 
+  pub missing-long : (a s n : ℕ) (e : Evaluation) (m : CountedSet) → missingBy T a s n e ≡ some m → length (m .members) ≡ length (e .missing .members)
+  unfolding missingBy
+  missing-long a s n e m h = go (eqb s 0 || eqb n 0) h
+    where
+      go : (b : Bool) → cond b (withMember (atomCount T) (e .missing) a (present e a && eqb n 0)) (some (e .missing)) ≡ some m → length (m .members) ≡ length (e .missing .members)
+      go true h = length-members (atomCount T) (e .missing) a (present e a && eqb n 0) m h
+      go false h = ap (λ y. length (y .members)) (sym (some-is (e .missing) m h))
+
   moved-fits : (t : Bool) (a : ℕ) (e d : Evaluation) → supportMoved T t a e ≡ some d → Fits T e → Fits T d
   unfolding supportMoved
   moved-fits t a e d h f =
-      let p = then-some (moved (T .made) t (getD (e .support) a 0)) (λ n. andThen (withMember (atomCount T) (e .missing) a (present e a && eqb n 0)) (λ m. some (withSupport e (set (e .support) a n) m))) d h in
-      let q = then-some (withMember (atomCount T) (e .missing) a (present e a && eqb (p .0) 0)) (λ m. some (withSupport e (set (e .support) a (p .0)) m)) d (p .2) in
+      let p = then-some (moved (T .made) t (getD (e .support) a 0)) (λ n. andThen (missingBy T a (getD (e .support) a 0) n e) (λ m. some (withSupport e (set (e .support) a n) m))) d h in
+      let q = then-some (missingBy T a (getD (e .support) a 0) (p .0) e) (λ m. some (withSupport e (set (e .support) a (p .0)) m)) d (p .2) in
       rw (some-is (withSupport e (set (e .support) a (p .0)) (q .0)) d (q .2)) at
-      (support-fits e a (p .0) (q .0) (length-members (atomCount T) (e .missing) a (present e a && eqb (p .0) 0) (q .0) (q .1)) f)
+      (support-fits e a (p .0) (q .0) (missing-long a (getD (e .support) a 0) (p .0) e (q .0) (q .1)) f)
 
   turned-fits : (t : Bool) (r : ℕ) (e d : Evaluation) → rootTurned T t r e ≡ some d → Fits T e → Fits T d
   unfolding rootTurned
@@ -189,8 +197,8 @@ module _ (T : Tables) where
   moved-above : (t : Bool) (a : ℕ) (e d : Evaluation) → supportMoved T t a e ≡ some d → e .worklist ≡ d .worklist
   unfolding supportMoved
   moved-above t a e d h =
-      let p = then-some (moved (T .made) t (getD (e .support) a 0)) (λ n. andThen (withMember (atomCount T) (e .missing) a (present e a && eqb n 0)) (λ m. some (withSupport e (set (e .support) a n) m))) d h in
-      let q = then-some (withMember (atomCount T) (e .missing) a (present e a && eqb (p .0) 0)) (λ m. some (withSupport e (set (e .support) a (p .0)) m)) d (p .2) in
+      let p = then-some (moved (T .made) t (getD (e .support) a 0)) (λ n. andThen (missingBy T a (getD (e .support) a 0) n e) (λ m. some (withSupport e (set (e .support) a n) m))) d h in
+      let q = then-some (missingBy T a (getD (e .support) a 0) (p .0) e) (λ m. some (withSupport e (set (e .support) a (p .0)) m)) d (p .2) in
       ap (λ y. y .worklist) (some-is (withSupport e (set (e .support) a (p .0)) (q .0)) d (q .2))
 
   turned-above : (t : Bool) (r : ℕ) (e d : Evaluation) → rootTurned T t r e ≡ some d → e .worklist ≡ d .worklist
