@@ -7,14 +7,14 @@ use mathlib.Core.Logic.{⊎-elim}
 use mathlib.Core.Bool.{Bool, true, false, not, cond}
 use mathlib.Core.List.{List}
 use mathlib.Core.Option.{Option, some, none}
-use lib.Bits.{bitXor}
+use lib.Bits.{bitAnd}
 use lib.Count.{trailingZeros}
 use lib.Dec.{eqb, ltb}
 use lib.ListN.{length, getD, set, take, drop, length-set, length-drop}
 use lib.Seq.{getD-set-same, length-take-le}
 use borrow.Author.Tests.{eq-eqb, ne-eqb, lt-ltb, le-ltb}
 use Rattle.base.specs.Tests.{below-or}
-use Rattle.words.specs.BitLaws.{trailing-below, trailing-set}
+use Rattle.words.specs.BitLaws.{trailing-below}
 use Rattle.words.specs.Next.{next}
 use Rattle.words.specs.NextLaws.{next-hit}
 use Rattle.words.specs.Sets.{inserted, removed}
@@ -265,7 +265,7 @@ module _ (T : Tables) (ws : List ℕ) (long : used T ≤ length ws) where
       t = trailingZeros 32 x
 
       abbrev left : ℕ
-      left = bitXor x ((1 * 2 ^ t) % 2 ^ 32)
+      left = bitAnd x (x - 1)
 
       below : t < 32
       below = trailing-below 32 32 x (omega (arith, ne)) small (omega arith)
@@ -275,7 +275,7 @@ module _ (T : Tables) (ws : List ℕ) (long : used T ≤ length ws) where
       removed-is =
           let a : m / 32 ≡ q = omega (arith, below) in
           let b : m % 32 ≡ t = omega (arith, below) in
-          rw (a, b, ← word) (ap (set (w .others .members) q) (digit-off x t below (trailing-set 32 x (omega (arith, ne)) small)))
+          rw (a, b, ← word) (ap (set (w .others .members) q) (digit-off 32 x (omega (arith, ne)) small))
 
       abbrev d1 : Evaluation
       d1 = put (withMembers (w .others) (set (w .others .members) q left))

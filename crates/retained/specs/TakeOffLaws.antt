@@ -1,19 +1,28 @@
--- A set digit of a word is taken off by turning it.
+-- The lowest set digit of a word is taken off by `and` with the number before it.
 -- Assumes nothing.
-use Prim.Native.Nat.{ℕ, zero, suc, _<_, _*_, _/_, _%_, _^_}
+use Prim.Native.Nat.{ℕ, zero, suc, _<_, _-_, _/_, _%_, _^_}
 use native.Mathlib.Nat.{div-add-mod', div-one, one-mul, max-zero}
-use native.Mathlib.Numerals.{one-add}
+use native.Mathlib.Numerals.{add-one, one-add}
 use native.Mathlib.Omega.{arith}
-use mathlib.Core.Path.{_≡_, ap, sym, _∙_}
+use mathlib.Core.Path.{_≡_, refl, ap, sym, _∙_}
 use mathlib.Core.Bool.{true}
-use lib.Bits.{bitOr, bitXor, or-step, or-zero-r, shifted-half, shifted-even}
+use lib.Arith.{lt-one}
+use lib.Pow.{shr-lt}
+use lib.Bits.{bitAnd, bitOr, bitXor, and-self, and-step, or-step, or-zero-r, xor-step, xor-zero-r, shifted-half, shifted-even}
+use lib.Count.{trailingZeros, under}
 use borrow.Author.Tests.{eqb-true}
 use Rattle.words.specs.Bit.{bit}
-use Rattle.words.specs.BitLaws.{bit-shift, one-shift}
+use Rattle.words.specs.BitLaws.{bit-shift, trailing-set}
 
 digit : (x i : ℕ) → bit x i ≡ true → x / 2 ^ i % 2 ≡ 1
 unfolding bit
 digit x i e = eqb-true (x / 2 ^ i % 2) 1 e
+
+power-half : (i : ℕ) → 2 ^ suc i / 2 ≡ 2 ^ i
+power-half i = ap (λ (y : ℕ). y / 2) (sym (one-mul (2 ^ suc i))) ∙ shifted-half 1 i ∙ one-mul (2 ^ i)
+
+power-even : (i : ℕ) → 2 ^ suc i % 2 ≡ 0
+power-even i = ap (λ (y : ℕ). y % 2) (sym (one-mul (2 ^ suc i))) ∙ shifted-even 1 i
 
 -- a digit that is set already
 or-set : (x i : ℕ) → bit x i ≡ true → bitOr x (2 ^ i) ≡ x
@@ -21,11 +30,29 @@ or-set x zero e =
     let d : x % 2 ≡ 1 = ap (λ (y : ℕ). y % 2) (sym (div-one x)) ∙ digit x zero e in
     or-step x 1 ∙ rw (d, or-zero-r (x / 2)) (omega (arith, d))
 or-set x (suc i) e =
-    let h : 2 ^ suc i / 2 ≡ 2 ^ i = ap (λ (y : ℕ). y / 2) (sym (one-mul (2 ^ suc i))) ∙ shifted-half 1 i ∙ one-mul (2 ^ i) in
-    let z : 2 ^ suc i % 2 ≡ 0 = ap (λ (y : ℕ). y % 2) (sym (one-mul (2 ^ suc i))) ∙ shifted-even 1 i in
     let b : bit x (suc i) ≡ bit (x / 2) i = rw (← one-add i) (sym (bit-shift x 1 i)) in
-    or-step x (2 ^ suc i) ∙ rw (h, z, or-set (x / 2) i (sym b ∙ e), max-zero (x % 2)) (div-add-mod' x 2)
+    or-step x (2 ^ suc i) ∙ rw (power-half i, power-even i, or-set (x / 2) i (sym b ∙ e), max-zero (x % 2)) (div-add-mod' x 2)
+
+-- `x & (x - 1)` turns the lowest set digit
+lowest-off : (w x : ℕ) → 0 < x → x < 2 ^ w → bitAnd x (x - 1) ≡ bitXor x (2 ^ trailingZeros w x)
+unfolding trailingZeros
+lowest-off zero x p h = absurd (omega (arith, lt-one h))
+lowest-off (suc w) x p h = go (x % 2) refl (λ q. lowest-off w (x / 2) q (shr-lt w 1 (rw add-one h)))
+  where
+    go : (d : ℕ) → x % 2 ≡ d → (0 < x / 2 → bitAnd (x / 2) (x / 2 - 1) ≡ bitXor (x / 2) (2 ^ trailingZeros w (x / 2)))
+        → bitAnd x (x - 1) ≡ bitXor x (2 ^ under d (trailingZeros w (x / 2)))
+    go zero e ih =
+        let t = trailingZeros w (x / 2) in
+        let a : (x - 1) / 2 ≡ x / 2 - 1 = omega (arith, e) in
+        let b : (x - 1) % 2 ≡ 1 = omega (arith, e) in
+        and-step x (x - 1) ∙ rw (a, b, e, ih (omega (arith, e)))
+        (sym (xor-step x (2 ^ suc t) ∙ rw (power-half t, power-even t, e)))
+    go (suc zero) e ih =
+        let a : (x - 1) / 2 ≡ x / 2 = omega (arith, e) in
+        let b : (x - 1) % 2 ≡ 0 = omega (arith, e) in
+        and-step x (x - 1) ∙ rw (a, b, e, and-self (x / 2)) (sym (xor-step x 1 ∙ rw (e, xor-zero-r (x / 2))))
+    go (suc (suc d)) e ih = absurd (omega arith)
 
 -- as the code stores it
-pub digit-off : (x t : ℕ) → t < 32 → bit x t ≡ true → bitXor x ((1 * 2 ^ t) % 2 ^ 32) ≡ bitXor (bitOr x (2 ^ t)) (2 ^ t)
-digit-off x t l e = rw (one-shift 32 t l, or-set x t e)
+pub digit-off : (w x : ℕ) → 0 < x → x < 2 ^ w → bitAnd x (x - 1) ≡ bitXor (bitOr x (2 ^ trailingZeros w x)) (2 ^ trailingZeros w x)
+digit-off w x p h = lowest-off w x p h ∙ rw (or-set x (trailingZeros w x) (trailing-set w x p h))

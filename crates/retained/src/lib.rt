@@ -154,7 +154,7 @@ fn advance(counts: Counts, kept: &mut [u32], k: usize, q: usize) -> bool
     if m <= k {
         return false;
     }
-    let rest = x ^ (1u32 << t);
+    let rest = x & (x - 1);
     kept[at] = rest;
     regroup(counts, kept, q, rest);
     kept[4] = kept[4] - 1;

@@ -2,7 +2,6 @@ use Prim.Native.Nat.{_+_}
 use native.Mathlib.Omega.{arith}
 use lib.Count.{trailing-le}
 use lib.ListN.{getD, length-set}
-use Rattle.words.specs.BitLaws.{trailing-below}
 use Rattle.kept_laws.specs.Given.{bare, sized}
 use Rattle.kept_laws.specs.Within.{header-within}
 use Rattle.retained.specs.QueueLaws.{advance-empty, advance-low, count-stays, advance-done}
@@ -50,8 +49,8 @@ returns-2 : tie.Need-returns-2
 returns-2 c = λ T. advance-low (sized (c .before .before .before .before .before .args .counts) T) (c .before .before .before .before .before .args .kept .now) (c .before .before .before .before .before .pre .2) (c .before .before .before .before .before .args .q) (c .before .before .before .before .before .pre .1) (c .before .if1 .left) (c .before .before .before .before .slice-known .given (8 + c .before .before .before .before .before .args .counts .nodes + c .before .before .before .before .before .args .q) .fits) (omega (arith, c .if2 .taken, c .before .before .before .before .before .pre .3))
 
 -- src/lib.rt:153:21
-shl-rest : tie.Need-shl-rest
-shl-rest c = trailing-below 32 32 (getD (c .before .before .before .before .before .args .kept .now) (8 + c .before .before .before .before .before .args .counts .nodes + c .before .before .before .before .before .args .q) 0) (omega (arith, c .before .if1 .left)) (c .before .before .before .before .slice-known .given (8 + c .before .before .before .before .before .args .counts .nodes + c .before .before .before .before .before .args .q) .fits) (omega arith)
+sub-rest : tie.Need-sub-rest
+sub-rest c = search needs
 
 -- src/lib.rt:154:5
 mul-kept : tie.Need-mul-kept
@@ -106,7 +105,7 @@ advance-spec =
     cast-m
     add-m
     returns-2
-    shl-rest
+    sub-rest
     mul-kept
     slice-write-kept
     regroup-requires
