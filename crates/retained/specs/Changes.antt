@@ -11,6 +11,7 @@ use Rattle.kept.specs.Worklist.{behind, advance, withoutFirst}
 use Rattle.kept.specs.Tables.{Tables, atomCount, nodeCount}
 use Rattle.kept.specs.Evaluation.{Evaluation}
 use Rattle.kept.specs.Parts.{withWorklist, withSupport, withCandidate}
+use Rattle.kept.specs.Step.{missingBy}
 
 -- node m behind the first of the worklist
 unfoldable pub waiting : Tables → ℕ → Evaluation → Option Evaluation
@@ -27,6 +28,10 @@ dequeued T e = andThen (withoutFirst (nodeCount T) (e .worklist)) (λ w. some (w
 -- atom a missing or not
 unfoldable pub missingTurned : Tables → ℕ → Bool → Evaluation → Option Evaluation
 missingTurned T a x e = andThen (withMember (atomCount T) (e .missing) a x) (λ m. some (withSupport e (e .support) m))
+
+-- atom a missing or not, as its support goes from s to n
+unfoldable pub missingMoved : Tables → ℕ → ℕ → ℕ → Evaluation → Option Evaluation
+missingMoved T a s n e = andThen (missingBy T a s n e) (λ m. some (withSupport e (e .support) m))
 
 -- atom a in the candidate or not, and missing by its support
 unfoldable pub presenceTurned : Tables → ℕ → Bool → Evaluation → Option Evaluation

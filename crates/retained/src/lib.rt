@@ -15,7 +15,7 @@ ghost use Rattle.kept_laws.specs.Halves.{half};
 ghost use Rattle.kept_laws.specs.Wrote.{Wrote};
 ghost use Rattle.node_truth.specs.InWords.{presentIn};
 ghost use Rattle.retained.specs.Member.{Put, bitPut, memberPut};
-ghost use Rattle.retained.specs.Changes.{missingTurned, presenceTurned, waiting, advancedTo, dequeued};
+ghost use Rattle.retained.specs.Changes.{missingTurned, missingMoved, presenceTurned, waiting, advancedTo, dequeued};
 ghost use Rattle.retained.specs.Groups.{regrouped};
 use theory::Counts;
 
@@ -229,7 +229,18 @@ fn mark(kept: &mut [u32], at: usize, i: usize, x: bool)
     }
 }
 
-// One producer more of atom a has a true body: it is not missing.
+// Atom a, with `before` producers that have a true body, gains one: if that is its first it is not missing.
+fn relieved(counts: Counts, kept: &mut [u32], a: usize, before: usize) -> bool
+    requires { ⌜ Limited counts × (a < counts .atoms) × (usedBy counts ≤ length (now kept)) ⌝ }
+    ensures { λ r. ⌜ ((T : Tables) → Wrote (sized counts T) (now (kept .entry)) (missingMoved (sized counts T) a before (before + 1) (ofWords (sized counts T) (now (kept .entry)))) r (now (kept .exit))) ⌝ }
+{
+    if before != 0 {
+        return true;
+    }
+    missing(counts, kept, a, false)
+}
+
+// One producer more of atom a has a true body.
 fn gain(counts: Counts, made: usize, kept: &mut [u32], a: usize) -> bool
     requires { ⌜ Limited counts × (made ≤ counts .roots) × (a < counts .atoms) × (usedBy counts ≤ length (now kept)) ⌝ }
     ensures { λ r. ⌜ ((T : Tables) → Wrote (supplied counts made T) (now (kept .entry)) (supportMoved (supplied counts made T) true a (ofWords (supplied counts made T) (now (kept .entry)))) r (now (kept .exit))) ⌝ }
@@ -240,22 +251,23 @@ fn gain(counts: Counts, made: usize, kept: &mut [u32], a: usize) -> bool
     if before >= made {
         return false;
     }
-    if !missing(counts, kept, a, false) {
+    if !relieved(counts, kept, a, before) {
         return false;
     }
     kept[at] = (before + 1) as u32;
     true
 }
 
-// Whether atom a is missing once one of its producers, `before` in number, has lost its body.
-fn deserted(counts: Counts, kept: &[u32], a: usize, before: usize) -> bool
+// Atom a loses one of them: if that was its last it is missing where it is in the candidate.
+fn deserted(counts: Counts, kept: &mut [u32], a: usize, before: usize) -> bool
     requires { ⌜ Limited counts × (a < counts .atoms) × (usedBy counts ≤ length (now kept)) × (0 < before) ⌝ }
-    ensures { λ r. ⌜ r ≡ presentIn counts (now (kept .entry)) a && eqb (before - 1) 0 ⌝ }
+    ensures { λ r. ⌜ ((T : Tables) → Wrote (sized counts T) (now (kept .entry)) (missingMoved (sized counts T) a before (before - 1) (ofWords (sized counts T) (now (kept .entry)))) r (now (kept .exit))) ⌝ }
 {
     if before != 1 {
-        return false;
+        return true;
     }
-    node_truth::present(counts, kept, a)
+    let lacking = node_truth::present(counts, kept, a);
+    missing(counts, kept, a, lacking)
 }
 
 // One producer less.
@@ -269,8 +281,7 @@ fn lose(counts: Counts, kept: &mut [u32], a: usize) -> bool
     if before == 0 {
         return false;
     }
-    let lacking = deserted(counts, kept, a, before);
-    if !missing(counts, kept, a, lacking) {
+    if !deserted(counts, kept, a, before) {
         return false;
     }
     kept[at] = (before - 1) as u32;

@@ -1,84 +1,81 @@
-use Prim.Native.Nat.{_+_}
-use lib.ListN.{getD}
-use Rattle.node_truth.specs.InWords.{presentIn}
 use native.Mathlib.Omega.{arith}
 use mathlib.Core.Path.{sym}
-use mathlib.Core.Bool.{true, false}
-use Rattle.kept_laws.specs.Given.{supportAt, supplied}
+use mathlib.Core.Bool.{true}
+use Rattle.kept_laws.specs.Given.{supplied}
 use Rattle.kept_laws.specs.OptionLaws.{not-true, not-false}
 use Rattle.kept_laws.specs.Exits.{moved-up, moved-full}
-use Rattle.retained.specs.SupportLaws.{support-astray, support-none, support-done, gained}
+use Rattle.retained.specs.SupportLaws.{support-astray, support-none, support-done}
 use borrow.Author.Needs.{needs}
 use Rattle.retained.proofs.gain.Statement.{statement}
 use Rattle.retained.proofs.gain.Tie as tie
 use Rattle.retained.proofs.gain.Reads as reads
 use Rattle.retained.proofs.gain.Lts as lts
-use Rattle.retained.proofs.missing.Reads as missing-reads
+use Rattle.retained.proofs.relieved.Reads as relieved-reads
 use Rattle.words.proofs.word.Reads as word-reads
 
--- src/lib.rt:238:14
+-- src/lib.rt:249:14
 add-at : tie.Need-add-at
 add-at c = search needs
 
--- src/lib.rt:238:23
+-- src/lib.rt:249:23
 add-at-2 : tie.Need-add-at-2
 add-at-2 c = search needs
 
--- src/lib.rt:238:14
+-- src/lib.rt:249:14
 add-at-3 : tie.Need-add-at-3
 add-at-3 c = search needs
 
--- src/lib.rt:238:14
+-- src/lib.rt:249:14
 add-at-4 : tie.Need-add-at-4
 add-at-4 c = search needs
 
--- src/lib.rt:239:9
+-- src/lib.rt:250:9
 word-requires : tie.Need-word-requires
 word-requires c κs = search needs
 
--- src/lib.rt:241:9
+-- src/lib.rt:252:9
 same-length : tie.Need-same-length
 same-length c = search needs
 
--- src/lib.rt:241:9
+-- src/lib.rt:252:9
 returns : tie.Need-returns
-returns c = λ T. support-astray (supplied (c .before .before .before .before .args .counts) (c .before .before .before .before .args .made) T) (c .before .before .before .before .args .kept .now) (c .before .before .before .before .pre .3) (c .before .before .before .before .args .a) (c .before .before .before .before .pre .2) true (sym (moved-full (c .before .before .before .before .args .made) _ (omega (arith, c .if1 .taken, c .before .word .ensures .0))))
+returns c = let g = c .before .before .before .before .args in λ T. support-astray (supplied (g .counts) (g .made) T) (g .kept .now) (c .before .before .before .before .pre .3) (g .a) (c .before .before .before .before .pre .2) true (sym (moved-full (g .made) _ (omega (arith, c .if1 .taken, c .before .word .ensures .0))))
 
--- src/lib.rt:243:9
-missing-requires : tie.Need-missing-requires
-missing-requires c κs = search needs
+-- src/lib.rt:254:9
+relieved-requires : tie.Need-relieved-requires
+relieved-requires c κs = search needs
 
--- src/lib.rt:244:9
+-- src/lib.rt:255:9
 same-length-2 : tie.Need-same-length-2
 same-length-2 c = search needs
 
--- src/lib.rt:244:9
+-- src/lib.rt:255:9
 returns-2 : tie.Need-returns-2
-returns-2 c = λ T. support-none (supplied (c .before .before .before .before .before .before .before .before .before .args .counts) (c .before .before .before .before .before .before .before .before .before .args .made) T) (c .before .before .before .before .before .before .before .before .before .args .kept .now) (c .before .before .before .before .before .before .before .before .before .pre .3) (c .before .before .before .before .before .before .before .before .before .args .a) (c .before .before .before .before .before .before .before .before .before .pre .2) true _ (sym (moved-up (c .before .before .before .before .before .before .before .before .before .args .made) _ (omega (arith, c .before .before .before .before .before .if1 .left, c .before .before .before .before .before .before .word .ensures .0)))) false (gained (presentIn (c .before .before .before .before .before .before .before .before .before .args .counts) (c .before .before .before .before .before .before .before .before .before .args .kept .now) (c .before .before .before .before .before .before .before .before .before .args .a)) (getD (c .before .before .before .before .before .before .before .before .before .args .kept .now) (supportAt (c .before .before .before .before .before .before .before .before .before .args .counts) + c .before .before .before .before .before .before .before .before .before .args .a) 0)) _ _ (c .before .before .before .missing .ensures (supplied (c .before .before .before .before .before .before .before .before .before .args .counts) (c .before .before .before .before .before .before .before .before .before .args .made) T)) (not-true _ (c .if2 .taken))
+returns-2 c = let g = c .before .before .before .before .before .before .before .before .before .args in λ T. support-none (supplied (g .counts) (g .made) T) (g .kept .now) (c .before .before .before .before .before .before .before .before .before .pre .3) (g .a) (c .before .before .before .before .before .before .before .before .before .pre .2) true _ (sym (moved-up (g .made) _ (omega (arith, c .before .before .before .before .before .if1 .left, c .before .before .before .before .before .before .word .ensures .0)))) _ _ (rw (c .before .before .before .before .before .before .word .ensures .0) at (c .before .before .before .relieved .ensures (supplied (g .counts) (g .made) T))) (not-true _ (c .if2 .taken))
 
--- src/lib.rt:246:17
+-- src/lib.rt:257:17
 add-kept : tie.Need-add-kept
 add-kept c = search needs
 
--- src/lib.rt:246:16
+-- src/lib.rt:257:16
 cast-kept : tie.Need-cast-kept
 cast-kept c = search needs
 
--- src/lib.rt:246:5
+-- src/lib.rt:257:5
 mul-kept : tie.Need-mul-kept
 mul-kept c = search needs
 
--- src/lib.rt:246:5
+-- src/lib.rt:257:5
 slice-write-kept : tie.Need-slice-write-kept
 slice-write-kept c = search needs
 
--- src/lib.rt:233:1
+-- src/lib.rt:244:1
 same-length-3 : tie.Need-same-length-3
 same-length-3 c = search needs
 
--- src/lib.rt:233:1
+-- src/lib.rt:244:1
 returns-3 : tie.Need-returns-3
-returns-3 c = λ T. rw (c .before .before .before .before .before .before .word .ensures .0) (support-done (supplied (c .before .before .before .before .before .before .before .before .before .args .counts) (c .before .before .before .before .before .before .before .before .before .args .made) T) (c .before .before .before .before .before .before .before .before .before .args .kept .now) (c .before .before .before .before .before .before .before .before .before .pre .3) (c .before .before .before .before .before .before .before .before .before .args .a) (c .before .before .before .before .before .before .before .before .before .pre .2) true _ (sym (moved-up (c .before .before .before .before .before .before .before .before .before .args .made) _ (omega (arith, c .before .before .before .before .before .if1 .left, c .before .before .before .before .before .before .word .ensures .0)))) false (gained (presentIn (c .before .before .before .before .before .before .before .before .before .args .counts) (c .before .before .before .before .before .before .before .before .before .args .kept .now) (c .before .before .before .before .before .before .before .before .before .args .a)) (getD (c .before .before .before .before .before .before .before .before .before .args .kept .now) (supportAt (c .before .before .before .before .before .before .before .before .before .args .counts) + c .before .before .before .before .before .before .before .before .before .args .a) 0)) _ _ (c .before .before .before .missing .ensures (supplied (c .before .before .before .before .before .before .before .before .before .args .counts) (c .before .before .before .before .before .before .before .before .before .args .made) T)) (not-false _ (c .if2 .left)))
+returns-3 c = let g = c .before .before .before .before .before .before .before .before .before .args in λ T. rw (c .before .before .before .before .before .before .word .ensures .0) (support-done (supplied (g .counts) (g .made) T) (g .kept .now) (c .before .before .before .before .before .before .before .before .before .pre .3) (g .a) (c .before .before .before .before .before .before .before .before .before .pre .2) true _ (sym (moved-up (g .made) _ (omega (arith, c .before .before .before .before .before .if1 .left, c .before .before .before .before .before .before .word .ensures .0)))) _ _ (rw (c .before .before .before .before .before .before .word .ensures .0) at (c .before .before .before .relieved .ensures (supplied (g .counts) (g .made) T))) (not-false _ (c .if2 .left)))
 
 pub gain-spec : {M : Type 1} → statement M
 gain-spec =
@@ -91,7 +88,7 @@ gain-spec =
     word-requires
     same-length
     returns
-    missing-requires
+    relieved-requires
     same-length-2
     returns-2
     add-kept

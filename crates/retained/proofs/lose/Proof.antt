@@ -12,76 +12,71 @@ use Rattle.retained.proofs.lose.Tie as tie
 use Rattle.retained.proofs.lose.Reads as reads
 use Rattle.retained.proofs.lose.Lts as lts
 use Rattle.retained.proofs.deserted.Reads as deserted-reads
-use Rattle.retained.proofs.missing.Reads as missing-reads
 use Rattle.words.proofs.word.Reads as word-reads
 
--- src/lib.rt:267:14
+-- src/lib.rt:279:14
 add-at : tie.Need-add-at
 add-at c = search needs
 
--- src/lib.rt:267:23
+-- src/lib.rt:279:23
 add-at-2 : tie.Need-add-at-2
 add-at-2 c = search needs
 
--- src/lib.rt:267:14
+-- src/lib.rt:279:14
 add-at-3 : tie.Need-add-at-3
 add-at-3 c = search needs
 
--- src/lib.rt:267:14
+-- src/lib.rt:279:14
 add-at-4 : tie.Need-add-at-4
 add-at-4 c = search needs
 
--- src/lib.rt:268:9
+-- src/lib.rt:280:9
 word-requires : tie.Need-word-requires
 word-requires c κs = search needs
 
--- src/lib.rt:270:9
+-- src/lib.rt:282:9
 same-length : tie.Need-same-length
 same-length c = search needs
 
--- src/lib.rt:270:9
+-- src/lib.rt:282:9
 returns : tie.Need-returns
-returns c = λ T. support-astray (sized (c .before .before .before .before .args .counts) T) (c .before .before .before .before .args .kept .now) (c .before .before .before .before .pre .2) (c .before .before .before .before .args .a) (c .before .before .before .before .pre .1) false (sym (ap (moved (T .made) false) (sym (c .before .word .ensures .0) ∙ c .if1 .taken) ∙ moved-empty (T .made)))
+returns c = let g = c .before .before .before .before .args in λ T. support-astray (sized (g .counts) T) (g .kept .now) (c .before .before .before .before .pre .2) (g .a) (c .before .before .before .before .pre .1) false (sym (ap (moved (T .made) false) (sym (c .before .word .ensures .0) ∙ c .if1 .taken) ∙ moved-empty (T .made)))
 
--- src/lib.rt:272:9
+-- src/lib.rt:284:9
 deserted-requires : tie.Need-deserted-requires
 deserted-requires c κs = search needs
 
--- src/lib.rt:273:9
-missing-requires : tie.Need-missing-requires
-missing-requires c κs = search needs
-
--- src/lib.rt:274:9
+-- src/lib.rt:285:9
 same-length-2 : tie.Need-same-length-2
 same-length-2 c = search needs
 
--- src/lib.rt:274:9
+-- src/lib.rt:285:9
 returns-2 : tie.Need-returns-2
-returns-2 c = λ T. support-none (sized (c .before .before .before .before .before .before .before .before .before .before .before .args .counts) T) (c .before .before .before .before .before .before .before .before .before .before .before .args .kept .now) (c .before .before .before .before .before .before .before .before .before .before .before .pre .2) (c .before .before .before .before .before .before .before .before .before .before .before .args .a) (c .before .before .before .before .before .before .before .before .before .before .before .pre .1) false _ (sym (moved-down (T .made) _ (omega (arith, c .before .before .before .before .before .before .before .if1 .left, c .before .before .before .before .before .before .before .before .word .ensures .0)))) _ (rw (c .before .before .before .before .before .before .before .before .word .ensures .0) at (c .before .before .before .before .before .deserted .ensures)) _ _ (c .before .before .before .missing .ensures (sized (c .before .before .before .before .before .before .before .before .before .before .before .args .counts) T)) (not-true _ (c .if2 .taken))
+returns-2 c = let g = c .before .before .before .before .before .before .before .before .before .args in λ T. support-none (sized (g .counts) T) (g .kept .now) (c .before .before .before .before .before .before .before .before .before .pre .2) (g .a) (c .before .before .before .before .before .before .before .before .before .pre .1) false _ (sym (moved-down (T .made) _ (omega (arith, c .before .before .before .before .before .if1 .left, c .before .before .before .before .before .before .word .ensures .0)))) _ _ (rw (c .before .before .before .before .before .before .word .ensures .0) at (c .before .before .before .deserted .ensures (sized (g .counts) T))) (not-true _ (c .if2 .taken))
 
--- src/lib.rt:276:17
+-- src/lib.rt:287:17
 sub-kept : tie.Need-sub-kept
 sub-kept c = search needs
 
--- src/lib.rt:276:16
+-- src/lib.rt:287:16
 cast-kept : tie.Need-cast-kept
 cast-kept c = search needs
 
--- src/lib.rt:276:5
+-- src/lib.rt:287:5
 mul-kept : tie.Need-mul-kept
 mul-kept c = search needs
 
--- src/lib.rt:276:5
+-- src/lib.rt:287:5
 slice-write-kept : tie.Need-slice-write-kept
 slice-write-kept c = search needs
 
--- src/lib.rt:262:1
+-- src/lib.rt:274:1
 same-length-3 : tie.Need-same-length-3
 same-length-3 c = search needs
 
--- src/lib.rt:262:1
+-- src/lib.rt:274:1
 returns-3 : tie.Need-returns-3
-returns-3 c = λ T. rw (c .before .before .before .before .before .before .before .before .word .ensures .0) (support-done (sized (c .before .before .before .before .before .before .before .before .before .before .before .args .counts) T) (c .before .before .before .before .before .before .before .before .before .before .before .args .kept .now) (c .before .before .before .before .before .before .before .before .before .before .before .pre .2) (c .before .before .before .before .before .before .before .before .before .before .before .args .a) (c .before .before .before .before .before .before .before .before .before .before .before .pre .1) false _ (sym (moved-down (T .made) _ (omega (arith, c .before .before .before .before .before .before .before .if1 .left, c .before .before .before .before .before .before .before .before .word .ensures .0)))) _ (rw (c .before .before .before .before .before .before .before .before .word .ensures .0) at (c .before .before .before .before .before .deserted .ensures)) _ _ (c .before .before .before .missing .ensures (sized (c .before .before .before .before .before .before .before .before .before .before .before .args .counts) T)) (not-false _ (c .if2 .left)))
+returns-3 c = let g = c .before .before .before .before .before .before .before .before .before .args in λ T. rw (c .before .before .before .before .before .before .word .ensures .0) (support-done (sized (g .counts) T) (g .kept .now) (c .before .before .before .before .before .before .before .before .before .pre .2) (g .a) (c .before .before .before .before .before .before .before .before .before .pre .1) false _ (sym (moved-down (T .made) _ (omega (arith, c .before .before .before .before .before .if1 .left, c .before .before .before .before .before .before .word .ensures .0)))) _ _ (rw (c .before .before .before .before .before .before .word .ensures .0) at (c .before .before .before .deserted .ensures (sized (g .counts) T))) (not-false _ (c .if2 .left)))
 
 pub lose-spec : {M : Type 1} → statement M
 lose-spec =
@@ -95,7 +90,6 @@ lose-spec =
     same-length
     returns
     deserted-requires
-    missing-requires
     same-length-2
     returns-2
     sub-kept
