@@ -6,11 +6,11 @@ use mathlib.Core.Option.{Option, some}
 use lib.Dec.{eqb}
 use lib.ListN.{getD}
 use Rattle.words.specs.Next.{next}
-use Rattle.kept.specs.CountedSet.{andThen, withBit, withMember}
+use Rattle.kept.specs.CountedSet.{andThen, withMember}
 use Rattle.kept.specs.Worklist.{behind, advance, withoutFirst}
 use Rattle.kept.specs.Tables.{Tables, atomCount, nodeCount}
 use Rattle.kept.specs.Evaluation.{Evaluation}
-use Rattle.kept.specs.Parts.{withWorklist, withSupport, withCandidate}
+use Rattle.kept.specs.Parts.{withWorklist, withSupport}
 use Rattle.kept.specs.Step.{missingBy}
 
 -- node m behind the first of the worklist
@@ -33,7 +33,6 @@ missingTurned T a x e = andThen (withMember (atomCount T) (e .missing) a x) (λ 
 unfoldable pub missingMoved : Tables → ℕ → ℕ → ℕ → Evaluation → Option Evaluation
 missingMoved T a s n e = andThen (missingBy T a s n e) (λ m. some (withSupport e (e .support) m))
 
--- atom a in the candidate or not, and missing by its support
+-- atom a, to be in the candidate or not: missing by its support
 unfoldable pub presenceTurned : Tables → ℕ → Bool → Evaluation → Option Evaluation
-presenceTurned T a x e =
-    andThen (withMember (atomCount T) (e .missing) a (x && eqb (getD (e .support) a 0) 0)) (λ m. some (withCandidate e (withBit (e .candidate) a x) m))
+presenceTurned T a x e = missingTurned T a (x && eqb (getD (e .support) a 0) 0) e

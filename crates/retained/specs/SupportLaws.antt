@@ -12,7 +12,7 @@ use borrow.Author.Tests.{ne-eqb}
 use Rattle.base.specs.Tests.{and-true}
 use Rattle.kept.specs.CountedSet.{CountedSet, andThen, moved}
 use Rattle.kept.specs.Tables.{Tables, atomCount}
-use Rattle.kept.specs.Evaluation.{Evaluation, present}
+use Rattle.kept.specs.Evaluation.{Evaluation}
 use Rattle.kept.specs.Parts.{withSupport}
 use Rattle.kept.specs.Step.{missingBy, supportMoved}
 use Rattle.kept.specs.Layout.{ofWords, written, supportStart, used}

@@ -1,8 +1,8 @@
 // Changes of a kept evaluation in its lent words: `queue`, `presence`, `support` and `root` of tight/evaluate.rs. Each that can fail answers false where a count would leave its range.
 ghost use mathlib.Core.Path.{_≡_};
-ghost use mathlib.Core.Bool.{true, false, cond, _&&_};
+ghost use mathlib.Core.Bool.{true, false, cond};
 ghost use Prim.Native.Nat.{_+_, _-_, _*_, _/_, _<_, _≤_};
-ghost use lib.Dec.{eqb, ltb};
+ghost use lib.Dec.{ltb};
 ghost use lib.ListN.{length, getD, set};
 ghost use Rattle.theory.specs.Limits.{Limited};
 ghost use Rattle.words.specs.Next.{next};
@@ -13,7 +13,6 @@ ghost use Rattle.kept.specs.Step.{entered, supportMoved, rootTurned};
 ghost use Rattle.kept_laws.specs.Given.{groupsAt, usedBy, sized, supplied};
 ghost use Rattle.kept_laws.specs.Halves.{half};
 ghost use Rattle.kept_laws.specs.Wrote.{Wrote};
-ghost use Rattle.node_truth.specs.InWords.{presentIn};
 ghost use Rattle.retained.specs.Member.{Put, bitPut, memberPut};
 ghost use Rattle.retained.specs.Changes.{missingTurned, missingMoved, presenceTurned, waiting, advancedTo, dequeued};
 ghost use Rattle.retained.specs.Groups.{regrouped};
@@ -199,7 +198,7 @@ pub fn missing(counts: Counts, kept: &mut [u32], a: usize, lacking: bool) -> boo
     turn(kept, at, 2, counts.atoms, a, lacking)
 }
 
-// Atom a is in the candidate or not, and missing or not by its support.
+// Atom a becomes missing or not, by its support and whether it is to be in the candidate, which is not written here.
 pub fn presence(counts: Counts, kept: &mut [u32], a: usize, x: bool) -> bool
     requires { ⌜ Limited counts × (a < counts .atoms) × (usedBy counts ≤ length (now kept)) ⌝ }
     ensures { λ r. ⌜ ((T : Tables) → Wrote (sized counts T) (now (kept .entry)) (presenceTurned (sized counts T) a x (ofWords (sized counts T) (now (kept .entry)))) r (now (kept .exit))) ⌝ }
@@ -207,11 +206,7 @@ pub fn presence(counts: Counts, kept: &mut [u32], a: usize, x: bool) -> bool
     let n = counts.nodes;
     let support = 8 + n + (n + 31) / 32;
     let lacking = x && kept[support + a] == 0;
-    if !missing(counts, kept, a, lacking) {
-        return false;
-    }
-    mark(kept, support + counts.atoms, a, x);
-    true
+    missing(counts, kept, a, lacking)
 }
 
 // i is in the set whose words begin at `at`, or not.

@@ -1,4 +1,4 @@
--- One atom turned: present or not, then its atom nodes onto the worklist.
+-- One atom moved: missing or not, then its atom nodes onto the worklist.
 -- Assumes nothing.
 use Prim.Native.Nat.{ℕ, _≤_}
 use mathlib.Core.Path.{_≡_, refl, ap, sym, _∙_}
@@ -12,17 +12,16 @@ use Rattle.readers.specs.Incidences.{atomSlot}
 use Rattle.readers.specs.Laid as laying
 use Rattle.readers.specs.Laid.{inOrder}
 use Rattle.readers.specs.ReaderTable.{readerWords}
-use Rattle.kept.specs.CountedSet.{andThen, CountedSet, withBit, withMember}
-use Rattle.kept.specs.Tables.{Tables, atomCount, nodeCount, between, listAt, atomNodesAt}
+use Rattle.kept.specs.CountedSet.{andThen}
+use Rattle.kept.specs.Tables.{Tables, nodeCount, between, listAt, atomNodesAt}
 use Rattle.kept.specs.Evaluation.{Evaluation}
-use Rattle.kept.specs.Parts.{withCandidate}
-use Rattle.kept.specs.Start.{allEntered, atomTurned}
+use Rattle.kept.specs.Start.{allEntered}
 use Rattle.kept.specs.Layout.{ofWords, used}
 use Rattle.kept.specs.LayoutLaws.{Fits, fits-of}
-use Rattle.kept_laws.specs.FitsLaws.{length-members, candidate-fits}
-use Rattle.kept_laws.specs.OptionLaws.{some-is, then-some}
 use Rattle.kept_laws.specs.Wrote.{Wrote, wrote-true, wrote-false, beside-same}
 use Rattle.retained.specs.Changes.{presenceTurned}
+use Rattle.retained.specs.PresenceLaws.{missing-fits, missing-turned}
+use Rattle.start.specs.Moved.{atomMoved}
 use Rattle.start.specs.Onward.{Onward, onward-first, onward-stray, onward-then, onward-more}
 
 module _ (T : Tables) (a : ℕ) where
@@ -37,29 +36,22 @@ module _ (T : Tables) (a : ℕ) where
   unfolding listAt between inOrder
   nodes-none e = rw e
 
-  -- its nodes follow its presence
-  turned-twice : (J : Interpretation) (x : Bool) (e : Evaluation) → J a ≡ x
-      → atomTurned T J a e ≡ andThen (presenceTurned T a x e) (λ d. andThen (atomNodesAt T a) (allEntered T d))
-  unfolding atomTurned presenceTurned
-  turned-twice J x e p = rw p (go (withMember (atomCount T) (e .missing) a (x && eqb (getD (e .support) a 0) 0)))
-    where
-      go : (o : Option CountedSet)
-          → andThen o (λ m. andThen (atomNodesAt T a) (allEntered T (withCandidate e (withBit (e .candidate) a x) m)))
-          ≡ andThen (andThen o (λ m. some (withCandidate e (withBit (e .candidate) a x) m))) (λ d. andThen (atomNodesAt T a) (allEntered T d))
-      go none = refl
-      go (some m) = refl
+  -- its nodes follow
+  moved-twice : (J : Interpretation) (x : Bool) (e : Evaluation) → J a ≡ x
+      → atomMoved T J a e ≡ andThen (presenceTurned T a x e) (λ d. andThen (atomNodesAt T a) (allEntered T d))
+  unfolding atomMoved
+  moved-twice J x e p = rw p
 
   presence-fits : (x : Bool) (e d : Evaluation) → presenceTurned T a x e ≡ some d → Fits T e → Fits T d
   unfolding presenceTurned
   presence-fits x e d h f =
-      let p = then-some (withMember (atomCount T) (e .missing) a (x && eqb (getD (e .support) a 0) 0)) (λ m. some (withCandidate e (withBit (e .candidate) a x) m)) d h in
-      rw (some-is (withCandidate e (withBit (e .candidate) a x) (p .0)) d (p .2)) at
-      (candidate-fits T e a x (p .0) (length-members (atomCount T) (e .missing) a (x && eqb (getD (e .support) a 0) 0) (p .0) (p .1)) f)
+      let m = missing-turned T e d a (x && eqb (getD (e .support) a 0) 0) h in
+      rw (m .2) (missing-fits T e a (x && eqb (getD (e .support) a 0) 0) (m .0) (m .1) f)
 
   module _ (J : Interpretation) (x : Bool) (same : J a ≡ x) (ws : List ℕ) (room : used T ≤ length ws)
       (ok : Bool) (mid : List ℕ) (q : Wrote T ws (presenceTurned T a x (ofWords T ws)) ok mid) where
     abbrev whole : Option Evaluation
-    whole = atomTurned T J a (ofWords T ws)
+    whole = atomMoved T J a (ofWords T ws)
 
     abbrev rest : Evaluation → Option Evaluation
     rest d = andThen (atomNodesAt T a) (allEntered T d)
@@ -71,14 +63,14 @@ module _ (T : Tables) (a : ℕ) where
     pub turn-none : ok ≡ false → Wrote T ws whole false mid
     turn-none e =
         let f = wrote-false T ws (presenceTurned T a x (ofWords T ws)) mid ok q e in
-        onward-stray T ws whole room ws whole first mid (turned-twice J x (ofWords T ws) same ∙ ap (λ o. andThen o rest) (f .0)) (f .1)
+        onward-stray T ws whole room ws whole first mid (moved-twice J x (ofWords T ws) same ∙ ap (λ o. andThen o rest) (f .0)) (f .1)
 
     module _ (e : ok ≡ true) where
       then-nodes : Onward T ws whole mid (rest (ofWords T mid))
       then-nodes =
           let f = wrote-true T ws (presenceTurned T a x (ofWords T ws)) mid ok q e in
           onward-more T ws whole room ws whole first (presenceTurned T a x (ofWords T ws)) rest (f .0) mid
-          (turned-twice J x (ofWords T ws) same) (f .1) (presence-fits x (ofWords T ws) (f .0) (f .1) (fits-of T ws room)) (f .2)
+          (moved-twice J x (ofWords T ws) same) (f .1) (presence-fits x (ofWords T ws) (f .0) (f .1) (fits-of T ws room)) (f .2)
 
       -- its list is out of order
       pub turn-disordered : inOrder (T .readers) (readerWords (T .counts)) slot ≡ false → Wrote T ws whole false mid

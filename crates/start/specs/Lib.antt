@@ -1,7 +1,11 @@
 pub mod Onward
 pub mod EnterLaws
+pub mod Moved
+pub mod MovedLaws
 pub mod AtomLaws
 pub mod WordLaws
 pub mod PairLaws
+pub mod LayLaws
+pub mod LaidPair
 pub mod StartLaws
 pub mod KeptWithin

@@ -22,9 +22,7 @@ use Rattle.kept.specs.Evaluation.{present}
 use Rattle.kept.specs.Layout.{ofWords, used, candidateStart}
 use Rattle.kept.specs.LayoutLaws.{fits-of}
 use Rattle.kept_laws.specs.Halves.{digit-low, places-shift}
-use Rattle.kept_laws.specs.StartChanged.{allTurned}
 use Rattle.kept_laws.specs.Written.{get-candidate}
-use Rattle.kept_laws.specs.Wrote.{Wrote}
 use Rattle.start.specs.WordLaws.{wordAtoms}
 
 -- a place of word i in a set
@@ -94,7 +92,7 @@ module _ (T : Tables) (ws : List ℕ) (j x new : ℕ) (holds : Holds T ws j x) w
   pair-within h k b e = h k b (pair-differs k b ∙ e)
 
   -- the atoms at which an interpretation that is `new` there differs from the kept candidate
-  pair-atoms : (J : Interpretation) → ((k : ℕ) → k < 64 → J (j * 64 + k) ≡ bit new k)
+  pub pair-atoms : (J : Interpretation) → ((k : ℕ) → k < 64 → J (j * 64 + k) ≡ bit new k)
       → places (λ a. unlike (present (ofWords T ws) a) (J a)) (j * 64) 64 ≡ wordAtoms 64 j (bitXor x new)
   pair-atoms J same =
       let start : j * 64 ≡ j * 64 + 0 = omega arith in
@@ -106,8 +104,3 @@ module _ (T : Tables) (ws : List ℕ) (j x new : ℕ) (holds : Holds T ws j x) w
 
       digit : (k : ℕ) → k < 64 → differ (j * 64 + k) ≡ bit (bitXor x new) k
       digit k b = ap (unlike (present (ofWords T ws) (j * 64 + k))) (same k b) ∙ pair-differs k b
-
-  pub pair-enters : (J : Interpretation) → ((k : ℕ) → k < 64 → J (j * 64 + k) ≡ bit new k) → (r : Bool) (after : List ℕ)
-      → Wrote T ws (allTurned T J (wordAtoms 64 j (bitXor x new)) (ofWords T ws)) r after
-      → Wrote T ws (allTurned T J (places (λ a. unlike (present (ofWords T ws) a) (J a)) (j * 64) 64) (ofWords T ws)) r after
-  pair-enters J same r after h = rw (pair-atoms J same) h

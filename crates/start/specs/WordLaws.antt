@@ -1,4 +1,4 @@
--- The atoms of one word turned, lowest first.
+-- The atoms of one word moved, lowest first.
 -- Assumes nothing.
 use Prim.Native.Nat.{ℕ, _<_, _≤_, _+_, _*_, _/_, _%_, _^_}
 use native.Mathlib.Omega.{arith}
@@ -20,11 +20,11 @@ use Rattle.words.specs.Changed.{unlike}
 use Rattle.kept.specs.CountedSet.{andThen}
 use Rattle.kept.specs.Tables.{Tables}
 use Rattle.kept.specs.Evaluation.{Evaluation}
-use Rattle.kept.specs.Start.{atomTurned}
 use Rattle.kept.specs.Layout.{ofWords, used}
-use Rattle.kept_laws.specs.FitsLaws.{atom-fits}
 use Rattle.kept_laws.specs.StartChanged.{allTurned}
 use Rattle.kept_laws.specs.Wrote.{Wrote, wrote-true, wrote-false}
+use Rattle.start.specs.Moved.{atomMoved, allMoved}
+use Rattle.start.specs.MovedLaws.{moved-fits}
 use Rattle.start.specs.Onward.{Onward, onward-first, onward-fits, onward-stray, onward-done, onward-more}
 
 -- of word i, of width w, those at the set places of x
@@ -100,17 +100,21 @@ module _ (T : Tables) (J : Interpretation) where
   unfolding allTurned
   turned-none e = refl
 
-  turned-more : (a : ℕ) (rest : List ℕ) (e : Evaluation) → allTurned T J (a ∷ rest) e ≡ andThen (atomTurned T J a e) (allTurned T J rest)
-  unfolding allTurned
-  turned-more a rest e = refl
+  moved-none : (e : Evaluation) → allMoved T J [] e ≡ some e
+  unfolding allMoved
+  moved-none e = refl
+
+  moved-more : (a : ℕ) (rest : List ℕ) (e : Evaluation) → allMoved T J (a ∷ rest) e ≡ andThen (atomMoved T J a e) (allMoved T J rest)
+  unfolding allMoved
+  moved-more a rest e = refl
 
   module _ (w : ℕ) (ws : List ℕ) (i y : ℕ) where
     abbrev whole : Option Evaluation
-    whole = allTurned T J (wordAtoms w i y) (ofWords T ws)
+    whole = allMoved T J (wordAtoms w i y) (ofWords T ws)
 
     -- of the places of y those of x are left
     abbrev pub Turning : List ℕ → ℕ → Type 0
-    Turning mid x = Onward T ws whole mid (allTurned T J (wordAtoms w i x) (ofWords T mid))
+    Turning mid x = Onward T ws whole mid (allMoved T J (wordAtoms w i x) (ofWords T mid))
 
     module _ (room : used T ≤ length ws) where
       pub turning-first : Turning ws y
@@ -118,30 +122,30 @@ module _ (T : Tables) (J : Interpretation) where
 
       module _ (mid : List ℕ) (x : ℕ) (o : Turning mid x) where
         abbrev rest : Option Evaluation
-        rest = allTurned T J (wordAtoms w i x) (ofWords T mid)
+        rest = allMoved T J (wordAtoms w i x) (ofWords T mid)
 
         pub turning-done : x ≡ 0 → Wrote T ws whole true mid
         turning-done z =
-            onward-done T ws whole room mid rest o (rw (z, atoms-none w i) (turned-none (ofWords T mid)))
+            onward-done T ws whole room mid rest o (rw (z, atoms-none w i) (moved-none (ofWords T mid)))
 
         module _ (small : x < 2 ^ w) (ne : x ≡ 0 → ⊥) (r : Bool) (after : List ℕ)
-            (h : Wrote T mid (atomTurned T J (i * w + trailingZeros w x) (ofWords T mid)) r after) where
+            (h : Wrote T mid (atomMoved T J (i * w + trailingZeros w x) (ofWords T mid)) r after) where
           abbrev a : ℕ
           a = i * w + trailingZeros w x
 
           abbrev y' : ℕ
           y' = bitXor x ((1 * 2 ^ trailingZeros w x) % 2 ^ w)
 
-          go-on : rest ≡ andThen (atomTurned T J a (ofWords T mid)) (allTurned T J (wordAtoms w i y'))
-          go-on = ap (λ l. allTurned T J l (ofWords T mid)) (atoms-first w x small ne i) ∙ turned-more a (wordAtoms w i y') (ofWords T mid)
+          go-on : rest ≡ andThen (atomMoved T J a (ofWords T mid)) (allMoved T J (wordAtoms w i y'))
+          go-on = ap (λ l. allMoved T J l (ofWords T mid)) (atoms-first w x small ne i) ∙ moved-more a (wordAtoms w i y') (ofWords T mid)
 
           pub turning-stray : r ≡ false → Wrote T ws whole false after
           turning-stray s =
-              let f = wrote-false T mid (atomTurned T J a (ofWords T mid)) after r h s in
-              onward-stray T ws whole room mid rest o after (go-on ∙ ap (λ o. andThen o (allTurned T J (wordAtoms w i y'))) (f .0)) (f .1)
+              let f = wrote-false T mid (atomMoved T J a (ofWords T mid)) after r h s in
+              onward-stray T ws whole room mid rest o after (go-on ∙ ap (λ o. andThen o (allMoved T J (wordAtoms w i y'))) (f .0)) (f .1)
 
           pub turning-more : r ≡ true → Turning after y'
           turning-more s =
-              let f = wrote-true T mid (atomTurned T J a (ofWords T mid)) after r h s in
-              onward-more T ws whole room mid rest o (atomTurned T J a (ofWords T mid)) (allTurned T J (wordAtoms w i y')) (f .0) after
-              go-on (f .1) (atom-fits T J a (ofWords T mid) (f .0) (f .1) (onward-fits T ws whole room mid rest o)) (f .2)
+              let f = wrote-true T mid (atomMoved T J a (ofWords T mid)) after r h s in
+              onward-more T ws whole room mid rest o (atomMoved T J a (ofWords T mid)) (allMoved T J (wordAtoms w i y')) (f .0) after
+              go-on (f .1) (moved-fits T J a (ofWords T mid) (f .0) (f .1) (onward-fits T ws whole room mid rest o)) (f .2)

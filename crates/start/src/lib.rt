@@ -15,11 +15,12 @@ ghost use Rattle.kept.specs.SetOf.{words64};
 ghost use Rattle.kept.specs.Tables.{Tables};
 ghost use Rattle.kept.specs.Evaluation.{present};
 ghost use Rattle.kept.specs.Layout.{ofWords};
-ghost use Rattle.kept.specs.Start.{allEntered, atomTurned, walkStart};
+ghost use Rattle.kept.specs.Start.{allEntered, walkStart};
 ghost use Rattle.kept_laws.specs.Given.{usedBy, sized, listed};
 ghost use Rattle.kept_laws.specs.StartChanged.{allTurned};
 ghost use Rattle.kept_laws.specs.Wrote.{Wrote};
 ghost use Rattle.difference.specs.Marks.{Marked, Between};
+ghost use Rattle.start.specs.Moved.{atomMoved, pairLaid};
 use theory::Counts;
 
 // The nodes listed onto the worklist; false is refusal 17, here and below.
@@ -41,10 +42,10 @@ fn enter_all(counts: Counts, list: &[u64], kept: &mut [u32]) -> bool
     true
 }
 
-// Atom a becomes present or not, and its atom nodes go onto the worklist.
+// Atom a becomes missing or not, and its atom nodes go onto the worklist; the candidate has it already.
 fn turn_atom(counts: Counts, readers: &[u64], kept: &mut [u32], a: usize, x: bool) -> bool
     requires { ⌜ Limited counts × (readerWords counts ≤ length (now readers)) × (usedBy counts ≤ length (now kept)) × (a < counts .atoms) ⌝ }
-    ensures { λ r. ⌜ ((T : Tables) (J : Interpretation) → J a ≡ x → Wrote (listed counts (now (readers .entry)) T) (now (kept .entry)) (atomTurned (listed counts (now (readers .entry)) T) J a (ofWords (listed counts (now (readers .entry)) T) (now (kept .entry)))) r (now (kept .exit))) ⌝ }
+    ensures { λ r. ⌜ ((T : Tables) (J : Interpretation) → J a ≡ x → Wrote (listed counts (now (readers .entry)) T) (now (kept .entry)) (atomMoved (listed counts (now (readers .entry)) T) J a (ofWords (listed counts (now (readers .entry)) T) (now (kept .entry)))) r (now (kept .exit))) ⌝ }
 {
     if !retained::presence(counts, kept, a, x) {
         return false;
@@ -73,13 +74,27 @@ fn old_pair(counts: Counts, kept: &[u32], j: usize) -> u64
     kept[at] as u64
 }
 
-// The atoms of words 2 j and 2 j + 1, taken as one, become as `new` has them: one loop for both, as one of the two often has no change.
+// The words of pair j in the kept candidate become those of `new`.
+fn lay_pair(counts: Counts, kept: &mut [u32], j: usize, new: u64)
+    requires { ⌜ Limited counts × (usedBy counts ≤ length (now kept)) × (j < words64 (counts .atoms)) ⌝ }
+    ensures { λ _. ⌜ now (kept .exit) ≡ pairLaid counts j new (now (kept .entry)) ⌝ }
+{
+    let n = counts.nodes;
+    let at = 8 + n + (n + 31) / 32 + counts.atoms + 2 * j;
+    kept[at] = (new % 0x1_0000_0000) as u32;
+    if counts.atoms > 64 * j + 32 {
+        kept[at + 1] = (new >> 32) as u32;
+    }
+}
+
+// The atoms of words 2 j and 2 j + 1, taken as one, become as `new` has them, the candidate first: one loop for both, as one of the two often has no change.
 fn turn_pair(counts: Counts, readers: &[u64], kept: &mut [u32], j: usize, new: u64) -> bool
     requires { ⌜ Limited counts × (readerWords counts ≤ length (now readers)) × (usedBy counts ≤ length (now kept)) × (j < words64 (counts .atoms)) ⌝ }
     requires { ⌜ ((T : Tables) (k : ℕ) → k < 64 → unlike (present (ofWords (listed counts (now readers) T) (now kept)) (j * 64 + k)) (bit new k) ≡ true → j * 64 + k < counts .atoms) ⌝ }
     ensures { λ r. ⌜ ((T : Tables) (J : Interpretation) → ((k : ℕ) → k < 64 → J (j * 64 + k) ≡ bit new k) → Wrote (listed counts (now (readers .entry)) T) (now (kept .entry)) (allTurned (listed counts (now (readers .entry)) T) J (places (λ a. unlike (present (ofWords (listed counts (now (readers .entry)) T) (now (kept .entry))) a) (J a)) (j * 64) 64) (ofWords (listed counts (now (readers .entry)) T) (now (kept .entry)))) r (now (kept .exit))) ⌝ }
 {
     let mut x = old_pair(counts, kept, j) ^ new;
+    lay_pair(counts, kept, j, new);
     while x != 0 {
         let k = u64::trailing_zeros(x);
         let a = j * 64 + k as usize;
