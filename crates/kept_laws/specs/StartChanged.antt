@@ -26,6 +26,11 @@ use Rattle.kept.specs.LayoutLaws.{Fits}
 use Rattle.kept_laws.specs.FitsLaws.{atom-fits}
 use Rattle.kept_laws.specs.StartFrom.{startFrom, start-from, start-jump, start-turn}
 
+pub bit-other : (ws : List ℕ) (a j : ℕ) (x : Bool) → a / 32 < length ws → (a ≡ j → ⊥) → member 32 (withBit ws a x) j ≡ member 32 ws j
+unfolding withBit
+bit-other ws a j true l h = member-inserted 32 ws a j l ∙ rw (ne-eqb a j h)
+bit-other ws a j false l h = member-removed 32 ws a j l ∙ rw (ne-eqb a j h)
+
 module _ (T : Tables) where
   entered-candidate : (m : ℕ) (e d : Evaluation) → entered T m e ≡ some d → d .candidate ≡ e .candidate
   unfolding entered
@@ -42,17 +47,12 @@ module _ (T : Tables) where
 
   module _ (J : Interpretation) where
     -- one atom turned: the others stay
-    turned-candidate : (a : ℕ) (e d : Evaluation) → atomTurned T J a e ≡ some d → d .candidate ≡ withBit (e .candidate) a (J a)
+    pub turned-candidate : (a : ℕ) (e d : Evaluation) → atomTurned T J a e ≡ some d → d .candidate ≡ withBit (e .candidate) a (J a)
     unfolding atomTurned
     turned-candidate a e d h =
         let p = then-some (withMember (atomCount T) (e .missing) a (J a && eqb (getD (e .support) a 0) 0)) (λ m. andThen (atomNodesAt T a) (allEntered T (withCandidate e (withBit (e .candidate) a (J a)) m))) d h in
         let q = then-some (atomNodesAt T a) (allEntered T (withCandidate e (withBit (e .candidate) a (J a)) (p .0))) d (p .2) in
         all-candidate (withCandidate e (withBit (e .candidate) a (J a)) (p .0)) d (q .0) (q .2)
-
-    bit-other : (ws : List ℕ) (a j : ℕ) (x : Bool) → a / 32 < length ws → (a ≡ j → ⊥) → member 32 (withBit ws a x) j ≡ member 32 ws j
-    unfolding withBit
-    bit-other ws a j true l h = member-inserted 32 ws a j l ∙ rw (ne-eqb a j h)
-    bit-other ws a j false l h = member-removed 32 ws a j l ∙ rw (ne-eqb a j h)
 
     pub turned-present : (a j : ℕ) (e d : Evaluation) → atomTurned T J a e ≡ some d → Fits T e → a < atomCount T → (a ≡ j → ⊥) → present d j ≡ present e j
     turned-present a j e d h f l n = ap (λ ws. member 32 ws j) (turned-candidate a e d h) ∙ bit-other (e .candidate) a j (J a) (omega (arith, f .candidate)) n

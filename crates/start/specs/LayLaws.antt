@@ -10,7 +10,7 @@ use mathlib.Core.List.{List, [], _∷_}
 use lib.ListN.{length, getD, set, length-set}
 use lib.Pow.{pow-pos}
 use lib.Seq.{getD-set-same, getD-set-other}
-use borrow.Author.Tests.{eq-eqb, ne-eqb}
+use borrow.Author.Tests.{eq-eqb}
 use Rattle.base.specs.Tests.{equal-or, below-or}
 use Rattle.base.specs.Places.{places, places-yes, places-no}
 use Rattle.formula.specs.Satisfaction.{Interpretation}
@@ -23,6 +23,7 @@ use Rattle.kept.specs.SetOfLaws.{Small, same-words}
 use Rattle.kept.specs.CountedSet.{withBit}
 use Rattle.kept_laws.specs.FitsLaws.{length-bit}
 use Rattle.kept_laws.specs.Halves.{digit-low}
+use Rattle.kept_laws.specs.StartChanged.{bit-other}
 use Rattle.start.specs.PairLaws.{place-member}
 use Rattle.start.specs.Moved.{bitsLaid}
 
@@ -32,11 +33,6 @@ bit-same : (ws : List ℕ) (a : ℕ) (x : Bool) → a / 32 < length ws → membe
 unfolding withBit
 bit-same ws a true l = member-inserted 32 ws a a l ∙ rw (eq-eqb a a refl)
 bit-same ws a false l = member-removed 32 ws a a l ∙ rw (eq-eqb a a refl)
-
-bit-other : (ws : List ℕ) (a j : ℕ) (x : Bool) → a / 32 < length ws → (a ≡ j → ⊥) → member 32 (withBit ws a x) j ≡ member 32 ws j
-unfolding withBit
-bit-other ws a j true l h = member-inserted 32 ws a j l ∙ rw (ne-eqb a j h)
-bit-other ws a j false l h = member-removed 32 ws a j l ∙ rw (ne-eqb a j h)
 
 bit-small : (ws : List ℕ) (a : ℕ) (x : Bool) → Small 32 ws → Small 32 (withBit ws a x)
 unfolding withBit

@@ -17,8 +17,8 @@ use Rattle.kept.specs.Step.{entered}
 use Rattle.kept.specs.Start.{allEntered, atomTurned}
 use Rattle.kept.specs.LayoutLaws.{Fits}
 use Rattle.kept_laws.specs.FitsLaws.{entered-all-fits}
-use Rattle.kept_laws.specs.OptionLaws.{some-is, then-some}
-use Rattle.kept_laws.specs.StartChanged.{allTurned}
+use Rattle.kept_laws.specs.OptionLaws.{then-some}
+use Rattle.kept_laws.specs.StartChanged.{turned-candidate, allTurned}
 use Rattle.retained.specs.Changes.{missingTurned, presenceTurned}
 use Rattle.retained.specs.PresenceLaws.{missing-fits, missing-turned}
 use Rattle.start.specs.Moved.{atomMoved, allMoved, bitsLaid}
@@ -58,21 +58,9 @@ module _ (T : Tables) where
       go true ih = ap (λ o. andThen o (λ d. allEntered T d ks)) (entered-over k e c) ∙ then' (entered T k e) ih
       go false ih = refl
 
-  all-candidate : (ks : List ℕ) (e d : Evaluation) → allEntered T e ks ≡ some d → d .candidate ≡ e .candidate
-  all-candidate ks e d h =
-      let q : some d ≡ some (over d (e .candidate)) = sym h ∙ all-over ks e (e .candidate) ∙ ap (λ o. andThen o (λ d. some (over d (e .candidate)))) h in
-      ap (λ y. y .candidate) (some-is d (over d (e .candidate)) q)
-
   -- ---- atoms turned
 
   module _ (J : Interpretation) where
-    turned-candidate : (a : ℕ) (e d : Evaluation) → atomTurned T J a e ≡ some d → d .candidate ≡ withBit (e .candidate) a (J a)
-    unfolding atomTurned
-    turned-candidate a e d h =
-        let p = then-some (withMember (atomCount T) (e .missing) a (J a && eqb (getD (e .support) a 0) 0)) (λ m. andThen (atomNodesAt T a) (allEntered T (withCandidate e (withBit (e .candidate) a (J a)) m))) d h in
-        let q = then-some (atomNodesAt T a) (allEntered T (withCandidate e (withBit (e .candidate) a (J a)) (p .0))) d (p .2) in
-        all-candidate (q .0) (withCandidate e (withBit (e .candidate) a (J a)) (p .0)) d (q .2)
-
     atom-over : (a : ℕ) (e : Evaluation) (c : List ℕ) → atomMoved T J a (over e c) ≡ andThen (atomTurned T J a e) (λ d. some (over d c))
     unfolding atomMoved atomTurned presenceTurned missingTurned
     atom-over a e c = go (withMember (atomCount T) (e .missing) a (J a && eqb (getD (e .support) a 0) 0)) (atomNodesAt T a)
@@ -98,7 +86,7 @@ module _ (T : Tables) where
         go : (o : Option Evaluation) → atomTurned T J a e ≡ o → ((d : Evaluation) → allMoved T J more (over d (bitsLaid J more (d .candidate))) ≡ allTurned T J more d)
             → andThen (andThen o (λ d. some (over d last))) (allMoved T J more) ≡ andThen o (allTurned T J more)
         go none h ih = refl
-        go (some d) h ih = ap (λ c. allMoved T J more (over d (bitsLaid J more c))) (sym (turned-candidate a e d h)) ∙ ih d
+        go (some d) h ih = ap (λ c. allMoved T J more (over d (bitsLaid J more c))) (sym (turned-candidate T J a e d h)) ∙ ih d
 
     pub moved-fits : (a : ℕ) (e d : Evaluation) → atomMoved T J a e ≡ some d → Fits T e → Fits T d
     unfolding atomMoved presenceTurned
