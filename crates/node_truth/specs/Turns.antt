@@ -3,7 +3,7 @@
 use Prim.Native.Nat.{ℕ, suc, _+_, _-_, _<_, _≤_}
 use native.Mathlib.Omega.{arith}
 use mathlib.Core.Path.{_≡_, refl, sym, _∙_}
-use mathlib.Core.Bool.{Bool, true, false, not, cond, Bool·beq}
+use mathlib.Core.Bool.{Bool, true, false, not, cond, _&&_, _||_, Bool·beq}
 use mathlib.Core.List.{List}
 use mathlib.Core.Option.{Option, some, none}
 use lib.Dec.{ltb}
@@ -42,3 +42,18 @@ module _ (operands : List ℕ) (k : ℕ) (v : ℕ → Bool) (d : Bool) (i e : �
   pub group-done : e ≤ i → some (not d) ≡ whole
   unfolding groupSeen span
   group-done h = let left : e - i ≡ 0 = omega arith in sym (rest ∙ rw left)
+
+-- two entries, both below k
+decided-by : (d x y : Bool) → cond (unlike x d) (cond (unlike y d) (some (not d)) (some d)) (some d) ≡ some (cond d (x || y) (x && y))
+decided-by true true y = refl
+decided-by true false true = refl
+decided-by true false false = refl
+decided-by false true true = refl
+decided-by false true false = refl
+decided-by false false y = refl
+
+pub group-pair : (operands : List ℕ) (k : ℕ) (v : ℕ → Bool) (d : Bool) (i a b : ℕ) → a ≡ getD operands i 0 → b ≡ getD operands (i + 1) 0 → i + 2 ≤ length operands → a < k → b < k
+    → some (cond d (v a || v b) (v a && v b)) ≡ groupSeen k v d (span operands i 2)
+unfolding groupSeen span
+group-pair operands k v d i a b e f l p q =
+    sym (rw (span-more operands i 1 (omega arith), span-more operands (i + 1) 0 (omega arith), ← e, ← f, lt-ltb a k p, lt-ltb b k q) (decided-by d (v a) (v b)))

@@ -175,6 +175,24 @@ fn large_truth(
     group_truth(operands, kept, k, i, start + count - i, decisive)
 }
 
+// And or Or of two operands: both are read, so that no branch goes by a truth, unless one is not below k.
+fn pair_truth(operands: &[u32], kept: &[u32], k: usize, start: usize, decisive: bool) -> Seen
+    requires { ⌜ (start + 2 ≤ length (now operands)) × (8 + k ≤ length (now kept)) ⌝ }
+    ensures { λ r. ⌜ seenOf r ≡ groupSeen k (trueIn (now (kept .entry))) decisive (span (now (operands .entry)) start 2) ⌝ }
+{
+    let a = words::word(operands, start);
+    let b = words::word(operands, start + 1);
+    if words::greater(a, b) >= k {
+        return group_truth(operands, kept, k, start, 2, decisive);
+    }
+    let x = holds(kept, a);
+    let y = holds(kept, b);
+    if decisive {
+        return known(x || y);
+    }
+    known(x && y)
+}
+
 // The same of a span that may pass the table of `size` entries.
 pub fn span_truth(
     operands: &[u32],
@@ -193,6 +211,9 @@ pub fn span_truth(
     let kept = &kept[..];
     if start + count > size {
         return Seen::Stray;
+    }
+    if count == 2 {
+        return pair_truth(operands, kept, k, start, decisive);
     }
     if count >= 16 {
         return large_truth(operands, kept, k, start, count, decisive);
