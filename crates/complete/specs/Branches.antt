@@ -1,13 +1,15 @@
 -- What each branch of a step gives: of a node, a producer and a root.
 -- Assumes nothing.
 use Prim.Native.Nat.{ℕ, zero, suc, _<_, _≤_, _+_, _-_}
+use native.Mathlib.Nat.{add-zero}
 use native.Mathlib.Numerals.{add-one}
 use native.Mathlib.Omega.{arith}
-use mathlib.Core.Path.{_≡_, refl, ap, ap₂, sym, _∙_}
-use mathlib.Core.Bool.{Bool, true, false}
+use mathlib.Core.Path.{_≡_, refl, ap, ap₂, sym, _∙_, subst}
+use mathlib.Core.Bool.{Bool, true, false, cond}
 use mathlib.Core.List.{List}
 use mathlib.Core.Option.{Option, some, none}
 use lib.ListN.{length, getD, set}
+use lib.Seq.{set-getD}
 use borrow.Author.Tests.{lt-ltb, le-ltb, le-leb, lt-leb}
 use Rattle.theory.specs.Node.{nodeAt}
 use Rattle.theory.specs.declared.Node.{Node}
@@ -66,21 +68,26 @@ module _ (T : Tables) (ws : List ℕ) (long : used T ≤ length ws) where
       unfolding producerCounted
       entered = rw (sym h, sym b, lt-ltb head (atomCount T) l, le-leb body (nodeCount T) m)
 
-      pub producer-counts : (t : Bool) → t ≡ bodyTrue (trueIn ws) body → t ≡ true
-          → Wrote T ws (producerCounted T p e) true (set ws (supportStart T + head) (getD ws (supportStart T + head) 0 + 1))
+      counts : bodyTrue (trueIn ws) body ≡ true → Wrote T ws (producerCounted T p e) true (set ws (supportStart T + head) (getD ws (supportStart T + head) 0 + 1))
       unfolding counted
-      producer-counts t q r =
+      counts r =
           wrote-some T ws (producerCounted T p e) (set ws (supportStart T + head) (getD ws (supportStart T + head) 0 + 1))
           (withSupport e (set (e .support) head (suc (getD (e .support) head 0))) (e .missing))
-          (entered ∙ rw (sym h, sym b, sym (body-in body m), sym q, r))
+          (entered ∙ rw (sym h, sym b, sym (body-in body m), r))
           (ap₂ (λ w n. set w (supportStart T + head) n) (sym same) (add-one (getD ws (supportStart T + head) 0) ∙ ap suc (get-support T ws long head l))
           ∙ put-support T ws long e (fits-of T ws long) head (suc (getD (e .support) head 0)) l)
 
-      pub producer-passes : (t : Bool) → t ≡ bodyTrue (trueIn ws) body → t ≡ false → Wrote T ws (producerCounted T p e) true ws
+      passes : bodyTrue (trueIn ws) body ≡ false → Wrote T ws (producerCounted T p e) true ws
       unfolding counted
-      producer-passes t q r =
-          wrote-some T ws (producerCounted T p e) ws e
-          (entered ∙ rw (sym h, sym b, sym (body-in body m), sym q, r)) (sym same)
+      passes r = wrote-some T ws (producerCounted T p e) ws e (entered ∙ rw (sym h, sym b, sym (body-in body m), r)) (sym same)
+
+      pub producer-adds : (n : ℕ) → n ≡ cond (bodyTrue (trueIn ws) body) 1 0
+          → Wrote T ws (producerCounted T p e) true (set ws (supportStart T + head) (getD ws (supportStart T + head) 0 + n))
+      producer-adds n q = rw q (go (bodyTrue (trueIn ws) body) refl)
+        where
+          go : (t : Bool) → bodyTrue (trueIn ws) body ≡ t → Wrote T ws (producerCounted T p e) true (set ws (supportStart T + head) (getD ws (supportStart T + head) 0 + cond t 1 0))
+          go true r = counts r
+          go false r = rw add-zero (subst (Wrote T ws (producerCounted T p e) true) (sym (set-getD ws (supportStart T + head) 0)) (passes r))
 
   -- ---- root position p
 

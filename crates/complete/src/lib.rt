@@ -1,5 +1,6 @@
 // The fresh check: `complete` and `summarize` of tight/evaluate.rs on the words of a kept evaluation.
 ghost use mathlib.Core.Path.{_≡_};
+ghost use mathlib.Core.Bool.{cond};
 ghost use Prim.Native.Nat.{ℕ, _+_, _*_, _<_, _≤_};
 ghost use lib.ListN.{length, getD};
 ghost use Rattle.formula.specs.Passes.{Within};
@@ -157,6 +158,14 @@ fn body_true(kept: &[u32], body: usize) -> bool
     }
 }
 
+// What a producer adds to the support of its head: 1 if it counts.
+fn adds(kept: &[u32], body: usize) -> u32
+    requires { ⌜ 8 + body ≤ length (now kept) ⌝ }
+    ensures { λ r. ⌜ (r ≡ cond (bodyTrue (trueIn (now (kept .entry))) body) 1 0) × (r ≤ 1) ⌝ }
+{
+    if body_true(kept, body) { 1 } else { 0 }
+}
+
 // Producer p: the support of its head goes up if it counts; false if its head is no atom or its body no node.
 fn count_producer(counts: Counts, producers: &[u32], kept: &mut [u32], p: usize) -> bool
     requires { ⌜ Limited counts × (4 * p + 1 < length (now producers)) × (usedBy counts ≤ length (now kept)) × ((a : ℕ) → a < counts .atoms → getD (now kept) (supportAt counts + a) 0 ≤ counts .roots) ⌝ }
@@ -170,11 +179,10 @@ fn count_producer(counts: Counts, producers: &[u32], kept: &mut [u32], p: usize)
     if body > counts.nodes {
         return false;
     }
-    if body_true(kept, body) {
-        let n = counts.nodes;
-        let at = 8 + n + (n + 31) / 32 + head;
-        kept[at] = kept[at] + 1;
-    }
+    let n = counts.nodes;
+    let at = 8 + n + (n + 31) / 32 + head;
+    // no branch goes by the body's truth
+    kept[at] = kept[at] + adds(kept, body);
     true
 }
 
