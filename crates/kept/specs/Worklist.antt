@@ -58,10 +58,14 @@ advanced w q m =
 unfoldable pub advance : ℕ → Worklist → ℕ → ℕ → Option Worklist
 advance n w q m = cond (ltb q (words32 n) && filled (w .others .members) q && ltb (w .first) m) (some (advanced w q m)) none
 
+-- the next word with members: the one that the first node would stand in, else by the groups
+unfoldable pub nextFilled : Worklist → ℕ
+nextFilled w = cond (filled (w .others .members) (w .first / 32)) (w .first / 32) (next 32 (w .groups) (w .first / 32))
+
 unfoldable pub withoutFirst : ℕ → Worklist → Option Worklist
 withoutFirst n w =
     cond (eqb (w .others .size) 0) (some (withFirst w n))
-    (advance n w (next 32 (w .groups) (w .first / 32)) (next 32 (w .others .members) (32 * next 32 (w .groups) (w .first / 32))))
+    (advance n w (nextFilled w) (next 32 (w .others .members) (32 * nextFilled w)))
 
 -- ---- a set of places below n
 

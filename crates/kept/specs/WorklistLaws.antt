@@ -25,7 +25,7 @@ use Rattle.kept.specs.SetOf.{words32, setOf}
 use Rattle.kept.specs.SetOfLaws.{small-setOf, member-setOf, member-below, setOf-agree, setOf-inserted, setOf-removed, next-found}
 use Rattle.kept.specs.CountedSet.{countedSet, withBit}
 use Rattle.kept.specs.CountedSetLaws.{count-more, count-zero, counted-agree, bit-set, member-set}
-use Rattle.kept.specs.Worklist.{Worklist, behind, alone, withNode, filled, advanced, advance, withoutFirst, butLowest, worklistOf}
+use Rattle.kept.specs.Worklist.{Worklist, behind, alone, withNode, filled, advanced, advance, nextFilled, withoutFirst, butLowest, worklistOf}
 
 -- ---- a worklist by its first node and the test of the others
 
@@ -215,6 +215,20 @@ module _ (r : ℕ → Bool) (n k g : ℕ) (h : (j : ℕ) → j ≤ k → r j ≡
     next-group = next-found (filled (setOf r n)) n (k / 32) (g / 32) (omega arith) (omega arith) (filled-here r n g b r here)
         (λ q c. filled-none r n q (λ j e. lg .before j (omega arith) (omega arith)))
 
+    -- the word of the first itself, if it has members
+    same-word : filled (setOf r n) (k / 32) ≡ true → k / 32 ≡ g / 32
+    same-word e =
+        sym (next-found (filled (setOf r n)) n (k / 32) (k / 32) (omega arith) (omega arith) e (λ q c. filled-none r n q (λ j p. h j (omega arith))))
+        ∙ next-group
+
+    next-filled : nextFilled (listed k r n) ≡ g / 32
+    unfolding nextFilled listed countedSet
+    next-filled = go (filled (setOf r n) (k / 32)) refl
+      where
+        go : (x : Bool) → filled (setOf r n) (k / 32) ≡ x → cond x (k / 32) (next 32 (setOf (filled (setOf r n)) n) (k / 32)) ≡ g / 32
+        go true e = same-word e
+        go false e = next-group
+
     next-node : next 32 (setOf r n) (32 * (g / 32)) ≡ g
     next-node = next-found r n (32 * (g / 32)) g (omega arith) b here (λ j c. lg .before j (omega arith) c)
 
@@ -228,7 +242,7 @@ module _ (r : ℕ → Bool) (n k g : ℕ) (h : (j : ℕ) → j ≤ k → r j ≡
     next-leaves : withoutFirst n (listed k r n) ≡ some (worklistOf r n)
     unfolding withoutFirst advance listed countedSet
     next-leaves =
-        rw (ne-eqb (count r 0 n) 0 (λ z. true≢false (sym here ∙ count-zero r n z g b)), next-group, next-node)
+        rw (ne-eqb (count r 0 n) 0 (λ z. true≢false (sym here ∙ count-zero r n z g b)), next-filled, next-node)
         (rw (lt-ltb (g / 32) (words32 n) (omega arith), filled-here r n g b r here, lt-ltb k g a)
         (ap some (advanced-is ∙ listed-is r n g (updated r g false) lg (λ j i. without r g j))))
 

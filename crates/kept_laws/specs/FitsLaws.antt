@@ -21,7 +21,7 @@ use Rattle.readers.specs.Reader.{readingOf}
 use Rattle.kept_laws.specs.OptionLaws.{some-is, if-some, then-some}
 use Rattle.kept.specs.CountedSet.{andThen, CountedSet, moved, withBit, withMember}
 use Rattle.kept.specs.SetOf.{words32}
-use Rattle.kept.specs.Worklist.{Worklist, withFirst, behind, alone, withNode, filled, advanced, advance, withoutFirst}
+use Rattle.kept.specs.Worklist.{Worklist, withFirst, behind, alone, withNode, filled, advanced, advance, nextFilled, withoutFirst}
 use Rattle.kept.specs.Tables.{Tables, atomCount, nodeCount, rootCount, headAt, readersAt, atomNodesAt}
 use Rattle.kept.specs.Evaluation.{Evaluation, truthAt, present, truthWord}
 use Rattle.kept.specs.Parts.{withTruths, withWorklist, withSupport, withCandidate, withFalseRoots}
@@ -126,9 +126,9 @@ module _ (n : ℕ) (w : Worklist) (r : Worklist) where
       last : withFirst w n ≡ r → Leaves
       last i = (record { members = ap (λ y. length (y .others .members)) (sym i); groups = ap (λ y. length (y .groups)) (sym i) }, λ l. let x : n ≡ r .first = ap (λ y. y .first) i in omega (arith, x))
 
-      go : (b : Bool) → cond b (some (withFirst w n)) (advance n w (next 32 (w .groups) (w .first / 32)) (next 32 (w .others .members) (32 * next 32 (w .groups) (w .first / 32)))) ≡ some r → Leaves
+      go : (b : Bool) → cond b (some (withFirst w n)) (advance n w (nextFilled w) (next 32 (w .others .members) (32 * nextFilled w))) ≡ some r → Leaves
       go true h = last (some-is (withFirst w n) r h)
-      go false h = advance-is (next 32 (w .groups) (w .first / 32)) (next 32 (w .others .members) (32 * next 32 (w .groups) (w .first / 32))) h
+      go false h = advance-is (nextFilled w) (next 32 (w .others .members) (32 * nextFilled w)) h
 
 module _ (T : Tables) where
   -- ---- one part replaced by one as long

@@ -21,7 +21,7 @@ use Rattle.words.specs.Sets.{inserted, removed}
 use Rattle.words.specs.SetLaws.{length-removed}
 use Rattle.kept.specs.SetOf.{words32}
 use Rattle.kept.specs.CountedSet.{andThen, CountedSet, withBit, withMember}
-use Rattle.kept.specs.Worklist.{Worklist, withFirst, behind, alone, withNode, filled, advanced, advance, withoutFirst}
+use Rattle.kept.specs.Worklist.{Worklist, withFirst, behind, alone, withNode, filled, advanced, advance, nextFilled, withoutFirst}
 use Rattle.kept.specs.Tables.{Tables, nodeCount}
 use Rattle.kept.specs.Evaluation.{Evaluation}
 use Rattle.kept.specs.Parts.{withWorklist}
@@ -216,20 +216,32 @@ module _ (T : Tables) (ws : List ℕ) (long : used T ≤ length ws) where
       (rw (eq-eqb (w .others .size) 0 (sym (get-worklist-size T ws) ∙ z)))
       (first-stored (nodeCount T))
 
-  module _ (some-wait : getD ws 4 0 ≡ 0 → ⊥) (k q : ℕ) (first : getD ws 5 0 ≡ k) (group : q ≡ next 32 (w .groups) (k / 32)) where
+  -- the next word with members, after node k
+  module _ (k : ℕ) (first : getD ws 5 0 ≡ k) (inside : k < nodeCount T) where
+    here : getD ws (worklistStart T + k / 32) 0 ≡ getD (w .others .members) (w .first / 32) 0
+    here = get-worklist T ws long (k / 32) (omega arith) ∙ ap (λ i. getD (w .others .members) (i / 32) 0) (sym first ∙ get-first T ws)
+
+    pub next-here : (getD ws (worklistStart T + k / 32) 0 ≡ 0 → ⊥) → nextFilled w ≡ k / 32
+    unfolding nextFilled filled
+    next-here ne = rw (ne-eqb (getD (w .others .members) (w .first / 32) 0) 0 (λ z. ne (here ∙ z))) (ap (λ i. i / 32) (sym (get-first T ws) ∙ first))
+
+    pub next-beyond : (q : ℕ) → getD ws (worklistStart T + k / 32) 0 ≡ 0 → q ≡ next 32 (w .groups) (k / 32) → nextFilled w ≡ q
+    unfolding nextFilled filled
+    next-beyond q z group =
+        rw (eq-eqb (getD (w .others .members) (w .first / 32) 0) 0 (sym here ∙ z))
+        (ap (λ i. next 32 (w .groups) (i / 32)) (sym (get-first T ws) ∙ first) ∙ sym group)
+
+  module _ (some-wait : getD ws 4 0 ≡ 0 → ⊥) (q : ℕ) (found-word : nextFilled w ≡ q) where
     waits : eqb (w .others .size) 0 ≡ false
     waits = ne-eqb (w .others .size) 0 (λ z. some-wait (get-worklist-size T ws ∙ z))
 
-    found-group : next 32 (w .groups) (w .first / 32) ≡ q
-    found-group = ap (λ i. next 32 (w .groups) (i / 32)) (sym (get-first T ws) ∙ first) ∙ sym group
-
     pub dequeue-astray : words32 (nodeCount T) ≤ q → Wrote T ws (dequeued T e) false ws
     unfolding dequeued withoutFirst advance
-    dequeue-astray l = wrote-none T ws (dequeued T e) ws (rw (waits, found-group, le-ltb q (words32 (nodeCount T)) l)) (beside-same T ws)
+    dequeue-astray l = wrote-none T ws (dequeued T e) ws (rw (waits, found-word, le-ltb q (words32 (nodeCount T)) l)) (beside-same T ws)
 
     pub dequeue-next : (ok : Bool) (after : List ℕ) → Wrote T ws (advancedTo T q e) ok after → Wrote T ws (dequeued T e) ok after
     unfolding dequeued withoutFirst advancedTo
-    dequeue-next ok after h = rw (waits, found-group) h
+    dequeue-next ok after h = rw (waits, found-word) h
 
   -- its lowest other, in word q
   module _ (q : ℕ) (l : q < words32 (nodeCount T)) where

@@ -170,6 +170,10 @@ pub fn dequeue(counts: Counts, kept: &mut [u32], k: usize) -> bool
         kept[5] = counts.nodes as u32;
         return true;
     }
+    // the word of k first, as the groups take longer to read
+    if kept[8 + counts.nodes + k / 32] != 0 {
+        return advance(counts, kept, k, k / 32);
+    }
     let q = next_group(counts, kept, k / 32);
     if q >= (counts.nodes + 31) / 32 {
         return false;
