@@ -183,29 +183,17 @@ module _ (T : Tables) (ws : List ℕ) (long : used T ≤ length ws) where
         rw (passed (behind (nodeCount T) w m) (cond (ltb (w .first) (nodeCount T)) (behind (nodeCount T) (withFirst w m) (w .first)) (alone (nodeCount T) w m)), lt-ltb (w .first) (nodeCount T) (rw (get-first T ws) at n))
         (rw s at g)
 
-  -- as the code does both: the lower of m and the first is held, and the other goes on
-  module _ (m first other : ℕ) (mid : List ℕ) (is : first ≡ getD ws 5 0) (ne : m ≡ first → ⊥) (o : other ≡ cond (ltb m first) first m)
-      (s : mid ≡ cond (ltb m first) (set ws 5 m) ws) where
-    abbrev Went : Bool → List ℕ → Type 0
-    Went ok after = Wrote T ws (entered T m e) ok after
+  module _ (m first : ℕ) (is : first ≡ getD ws 5 0) where
+    pub queue-alone : m < first → nodeCount T ≤ first → Wrote T ws (entered T m e) (eqb first (nodeCount T)) (set ws 5 m)
+    queue-alone l n = rw is (queue-first m (omega (arith, is)) (omega (arith, is)))
 
-    held-lower : m < first → (other ≡ getD ws 5 0) × (mid ≡ set ws 5 m)
-    held-lower l = (o ∙ rw (lt-ltb m first l) is, s ∙ rw (lt-ltb m first l))
+    -- the other of the two goes on
+    module _ (other : ℕ) (mid : List ℕ) (ok : Bool) (after : List ℕ) (h : Wrote T mid (waiting T other (ofWords T mid)) ok after) where
+      pub queue-before : m < first → first < nodeCount T → mid ≡ set ws 5 m → other ≡ first → Wrote T ws (entered T m e) ok after
+      queue-before l n p q = queue-lower m (omega (arith, is)) ok after (omega (arith, is)) (rw (p, q ∙ is) at h)
 
-    held-other : first ≤ m → (other ≡ m) × (mid ≡ ws)
-    held-other l = (o ∙ rw (le-ltb m first l), s ∙ rw (le-ltb m first l))
-
-    pub queue-held : m < nodeCount T → nodeCount T ≤ other → Went (eqb other (nodeCount T)) mid
-    queue-held b h = ⊎-elim
-        (λ l. let x = held-lower l in rw (x .0, x .1) (queue-first m (omega (arith, is)) (omega (arith, x .0))))
-        (λ l. let x = held-other l in absurd (omega (arith, x .0)))
-        (below-or m first)
-
-    pub queue-waits : (ok : Bool) (after : List ℕ) → other < nodeCount T → Wrote T mid (waiting T other (ofWords T mid)) ok after → Went ok after
-    queue-waits ok after b h = ⊎-elim
-        (λ l. let x = held-lower l in queue-lower m (omega (arith, is)) ok after (omega (arith, x .0)) (rw (x .0, x .1) at h))
-        (λ l. let x = held-other l in queue-behind m ok after (omega (arith, is, ne)) (rw (x .0, x .1) at h))
-        (below-or m first)
+      pub queue-after : first < m → mid ≡ ws → other ≡ m → Wrote T ws (entered T m e) ok after
+      queue-after l p q = queue-behind m ok after (omega (arith, is)) (rw (p, q) at h)
 
   -- ---- the first leaves
 

@@ -90,30 +90,22 @@ fn wait(counts: Counts, kept: &mut [u32], m: usize) -> bool
     true
 }
 
-// The lower of node m and the first comes first; answers the other one.
-fn hold(kept: &mut [u32], first: usize, m: usize) -> usize
-    requires { ⌜ (5 < length (now kept)) × (m < 4294967296) ⌝ }
-    ensures { λ r. ⌜ (r ≡ cond (ltb m first) first m) × (now (kept .exit) ≡ cond (ltb m first) (set (now (kept .entry)) 5 m) (now (kept .entry))) ⌝ }
-{
-    if m < first {
-        kept[5] = m as u32;
-        return first;
-    }
-    m
-}
-
 // Node m onto the worklist: the lower of it and the first comes first, the other waits behind; a first above the number of nodes is refused.
 pub fn queue(counts: Counts, kept: &mut [u32], m: usize) -> bool
     requires { ⌜ Limited counts × (m < counts .nodes) × (usedBy counts ≤ length (now kept)) ⌝ }
     ensures { λ r. ⌜ ((T : Tables) → Wrote (sized counts T) (now (kept .entry)) (entered (sized counts T) m (ofWords (sized counts T) (now (kept .entry)))) r (now (kept .exit))) ⌝ }
 {
     let first = words::word(kept, 5);
-    if m == first {
-        return true;
-    }
-    let other = hold(kept, first, m);
-    if other >= counts.nodes {
-        return other == counts.nodes;
+    let mut other = m;
+    if m <= first {
+        if m == first {
+            return true;
+        }
+        kept[5] = m as u32;
+        if first >= counts.nodes {
+            return first == counts.nodes;
+        }
+        other = first;
     }
     wait(counts, kept, other)
 }
