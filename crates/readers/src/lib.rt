@@ -50,6 +50,20 @@ impl Reader {
         Reader((3u64 << Reader::SHIFT) | (i as u64))
     }
 
+    // The index of a producer's word; any other word gives 2^62 at least, so that one comparison tells both.
+    pub fn producer_index(self) -> u64
+        ensures { λ r. ⌜ (r < 2 ^ 62 → readingOf (self .0) ≡ Producer r) × ((i : ℕ) → readingOf (self .0) ≡ Producer i → r ≡ i) ⌝ }
+    {
+        self.0 ^ (2u64 << Reader::SHIFT)
+    }
+
+    // The same of a root position's.
+    pub fn root_index(self) -> u64
+        ensures { λ r. ⌜ (r < 2 ^ 62 → readingOf (self .0) ≡ Root r) × ((i : ℕ) → readingOf (self .0) ≡ Root i → r ≡ i) ⌝ }
+    {
+        self.0 ^ (3u64 << Reader::SHIFT)
+    }
+
     // What any word says.
     pub fn reading(self) -> Reading
         ensures { λ r. ⌜ r ≡ readingOf (self .0) ⌝ }
