@@ -1,9 +1,11 @@
 -- What a word says, and which items the node, the body or the root at hand makes.
 -- Assumes nothing.
-use Prim.Native.Nat.{ℕ, zero, suc, _+_, _-_, _*_, _/_, _%_, _^_}
+use Prim.Native.Nat.{ℕ, zero, suc, _+_, _-_, _*_, _/_, _%_, _^_, _<_}
+use native.Mathlib.Nat.{zero-add, add-zero}
 use native.Mathlib.Omega.{arith}
-use mathlib.Core.Path.{_≡_, refl, ap, sym, _∙_}
+use mathlib.Core.Path.{_≡_, refl, ap, ap₂, sym, _∙_}
 use mathlib.Core.List.{List, [], _∷_, map}
+use lib.Bits.{bitXor, xor-block, xor-zero-r, xor-self, xor-add-and, and-le-l, and-le-r}
 use lib.ListN.{length, getD}
 use Rattle.theory.specs.Node.{nodeAt, span, operandsOf}
 use Rattle.theory.specs.declared.Node.{Node}
@@ -75,3 +77,53 @@ other-tag (suc zero) i a b c = refl
 other-tag (suc (suc zero)) i a b c = absurd (b refl)
 other-tag (suc (suc (suc zero))) i a b c = absurd (c refl)
 other-tag (suc (suc (suc (suc n)))) i a b c = refl
+
+-- ---- a word less the tag t
+
+parts : (x t : ℕ) → bitXor x (t * 2 ^ 62) ≡ bitXor (x / 2 ^ 62) t * 2 ^ 62 + x % 2 ^ 62
+parts x t =
+    let whole : x ≡ x / 2 ^ 62 * 2 ^ 62 + x % 2 ^ 62 = omega arith in
+    ap₂ bitXor whole (sym (add-zero (t * 2 ^ 62)))
+    ∙ xor-block 62 (x / 2 ^ 62) t (x % 2 ^ 62) 0 (omega arith) (omega arith)
+    ∙ ap (λ l. bitXor (x / 2 ^ 62) t * 2 ^ 62 + l) (xor-zero-r (x % 2 ^ 62))
+
+same-tag : (a b : ℕ) → bitXor a b ≡ 0 → a ≡ b
+same-tag a b z = omega (arith, z, xor-add-and a b, and-le-l a b, and-le-r a b)
+
+pub tag-is : (x t : ℕ) → bitXor x (t * 2 ^ 62) < 2 ^ 62 → readingOf x ≡ byTag t (bitXor x (t * 2 ^ 62))
+unfolding readingOf
+tag-is x t l =
+    let none : bitXor (x / 2 ^ 62) t ≡ 0 = omega (arith, parts x t) in
+    ap₂ byTag (same-tag (x / 2 ^ 62) t none) (sym (parts x t ∙ rw none (zero-add (x % 2 ^ 62))))
+
+tag-off : (x t : ℕ) → x / 2 ^ 62 ≡ t → bitXor x (t * 2 ^ 62) ≡ x % 2 ^ 62
+tag-off x t e = parts x t ∙ rw (e, xor-self t) (zero-add (x % 2 ^ 62))
+
+module _ (x i : ℕ) where
+  pub producer-off : readingOf x ≡ reading.Producer i → bitXor x (2 * 2 ^ 62) ≡ i
+  unfolding readingOf
+  producer-off h = go (x / 2 ^ 62) refl h
+    where
+      index : reading.Producer (x % 2 ^ 62) ≡ reading.Producer i → x % 2 ^ 62 ≡ i
+      index e = cc
+
+      go : (tag : ℕ) → x / 2 ^ 62 ≡ tag → byTag tag (x % 2 ^ 62) ≡ reading.Producer i → bitXor x (2 * 2 ^ 62) ≡ i
+      go zero t e = cc
+      go (suc zero) t e = cc
+      go (suc (suc zero)) t e = tag-off x 2 t ∙ index e
+      go (suc (suc (suc zero))) t e = cc
+      go (suc (suc (suc (suc n)))) t e = cc
+
+  pub root-off : readingOf x ≡ reading.Root i → bitXor x (3 * 2 ^ 62) ≡ i
+  unfolding readingOf
+  root-off h = go (x / 2 ^ 62) refl h
+    where
+      index : reading.Root (x % 2 ^ 62) ≡ reading.Root i → x % 2 ^ 62 ≡ i
+      index e = cc
+
+      go : (tag : ℕ) → x / 2 ^ 62 ≡ tag → byTag tag (x % 2 ^ 62) ≡ reading.Root i → bitXor x (3 * 2 ^ 62) ≡ i
+      go zero t e = cc
+      go (suc zero) t e = cc
+      go (suc (suc zero)) t e = cc
+      go (suc (suc (suc zero))) t e = tag-off x 3 t ∙ index e
+      go (suc (suc (suc (suc n)))) t e = cc

@@ -1,8 +1,9 @@
 // The reader lists: who reads each node's truth. A port of tight/readers.rs.
 ghost use mathlib.Core.Path.{_≡_};
-ghost use Prim.Native.Nat.{_+_, _*_, _^_, _<_, _≤_};
+ghost use Prim.Native.Nat.{ℕ, _+_, _*_, _^_, _<_, _≤_};
 ghost use lib.ListN.{length, getD};
 ghost use Rattle.readers.specs.Reader.{nodeReader, producerReader, rootReader, readingOf};
+ghost use Rattle.readers.specs.declared.Reading.the-variants.{Producer, Root};
 ghost use Rattle.readers.specs.Incidences.{atomSlot, itemsAt, producerItems, rootItems, incidences, entriesOf};
 ghost use Rattle.readers.specs.Joined.{joined};
 ghost use Rattle.readers.specs.Pass.{passed, Fits, Countable, counted, countedAll, CountFits, Placeable, placed, placedAll, PlaceFits};

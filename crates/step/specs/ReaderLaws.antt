@@ -24,7 +24,7 @@ unfolding packed
 small-read word n l h = ap readingOf (sym (zero-add word)) ∙ packed-read 0 word (omega arith)
 
 -- a node that is read has its word's number
-pub node-read : (word m : ℕ) → readingOf word ≡ Node m → m ≡ word
+node-read : (word m : ℕ) → readingOf word ≡ Node m → m ≡ word
 unfolding readingOf
 node-read word m h = go (word / 2 ^ 62) refl h
   where
@@ -51,7 +51,7 @@ module _ (T : Tables) (ws : List ℕ) (k : ℕ) (t : Bool) (x r : Reading) (is :
   unfolding readerUpdated
   node-below m p l = refused (rw (sym is ∙ p, le-ltb k m l))
 
-  pub node-past : (m : ℕ) → r ≡ Node m → nodeCount T ≤ m → Wrote T ws (readerUpdated T k t e x) false ws
+  node-past : (m : ℕ) → r ≡ Node m → nodeCount T ≤ m → Wrote T ws (readerUpdated T k t e x) false ws
   unfolding readerUpdated
   node-past m p h = refused (rw (sym is ∙ p, le-ltb m (nodeCount T) h, and-false (ltb k m)))
 
@@ -61,7 +61,7 @@ module _ (T : Tables) (ws : List ℕ) (k : ℕ) (t : Bool) (x r : Reading) (is :
   node-told m p l h ok after w = rw (sym is ∙ p, lt-ltb k m l, lt-ltb m (nodeCount T) h) w
 
   -- no producer, or one whose head a is no atom
-  pub producer-past : (p : ℕ) → r ≡ Producer p → T .made ≤ p → Wrote T ws (readerUpdated T k t e x) false ws
+  producer-past : (p : ℕ) → r ≡ Producer p → T .made ≤ p → Wrote T ws (readerUpdated T k t e x) false ws
   unfolding readerUpdated
   producer-past p q l = refused (rw (sym is ∙ q, le-ltb p (T .made) l))
 
@@ -74,7 +74,7 @@ module _ (T : Tables) (ws : List ℕ) (k : ℕ) (t : Bool) (x r : Reading) (is :
   unfolding readerUpdated
   producer-told p a q l s h ok after w = rw (sym is ∙ q, lt-ltb p (T .made) l, sym s, lt-ltb a (atomCount T) h) w
 
-  pub root-past : (p : ℕ) → r ≡ Root p → rootCount T ≤ p → Wrote T ws (readerUpdated T k t e x) false ws
+  root-past : (p : ℕ) → r ≡ Root p → rootCount T ≤ p → Wrote T ws (readerUpdated T k t e x) false ws
   unfolding readerUpdated
   root-past p q l = refused (rw (sym is ∙ q, le-ltb p (rootCount T) l))
 
@@ -83,6 +83,17 @@ module _ (T : Tables) (ws : List ℕ) (k : ℕ) (t : Bool) (x r : Reading) (is :
   unfolding readerUpdated
   root-told p q l ok after w = rw (sym is ∙ q, lt-ltb p (rootCount T) l) w
 
-  pub unknown : r ≡ Unknown → Wrote T ws (readerUpdated T k t e x) false ws
+  unknown : r ≡ Unknown → Wrote T ws (readerUpdated T k t e x) false ws
   unfolding readerUpdated
   unknown q = refused (rw (sym is ∙ q))
+
+  -- none of those
+  pub no-reader : (word p q : ℕ) → x ≡ readingOf word → nodeCount T ≤ word → ((i : ℕ) → readingOf word ≡ Producer i → p ≡ i) → T .made ≤ p
+      → ((i : ℕ) → readingOf word ≡ Root i → q ≡ i) → rootCount T ≤ q → Wrote T ws (readerUpdated T k t e x) false ws
+  no-reader word p q h n f a g b = go x refl
+    where
+      go : (y : Reading) → x ≡ y → Wrote T ws (readerUpdated T k t e x) false ws
+      go (Node m) j = node-past m (is ∙ j) (omega (arith, node-read word m (sym h ∙ j)))
+      go (Producer i) j = producer-past i (is ∙ j) (omega (arith, f i (sym h ∙ j)))
+      go (Root i) j = root-past i (is ∙ j) (omega (arith, g i (sym h ∙ j)))
+      go Unknown j = unknown (is ∙ j)

@@ -17,7 +17,6 @@ ghost use Rattle.node_truth.specs.InWords.{seenOf};
 ghost use Rattle.step.specs.Steps.{Lent, settledTo, takenFrom, Steps};
 use node_truth::Seen;
 use readers::Reader;
-use readers::Reading;
 use theory::Counts;
 
 // Nothing was on the worklist; a node was gone over; or refusal 17, at a place.
@@ -47,26 +46,19 @@ fn update_reader(
         }
         return retained::queue(counts, kept, m);
     }
-    match Reader(word).reading() {
-        Reading::Node(_) => false,
-        Reading::Producer(p) => {
-            if p >= made {
-                return false;
-            }
-            let a = words::word(producers, 4 * p);
-            if a >= counts.atoms {
-                return false;
-            }
-            retained::support(counts, made, kept, a, holds)
+    let p = Reader(word).producer_index() as usize;
+    if p < made {
+        let a = words::word(producers, 4 * p);
+        if a >= counts.atoms {
+            return false;
         }
-        Reading::Root(p) => {
-            if p >= counts.roots {
-                return false;
-            }
-            retained::root(counts, kept, p, holds)
-        }
-        Reading::Unknown => false,
+        return retained::support(counts, made, kept, a, holds);
     }
+    let r = Reader(word).root_index() as usize;
+    if r >= counts.roots {
+        return false;
+    }
+    retained::root(counts, kept, r, holds)
 }
 
 // Each of the readers listed, one after the other.

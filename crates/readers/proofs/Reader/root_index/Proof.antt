@@ -1,0 +1,16 @@
+use Rattle.readers.proofs.Steps.{tag-is, root-off}
+use borrow.Author.Needs.{needs}
+use Rattle.readers.proofs.Reader.root_index.Statement.{statement}
+use Rattle.readers.proofs.Reader.root_index.Tie as tie
+
+cast-result : tie.Need-cast-result
+cast-result c = search needs
+
+shl-result : tie.Need-shl-result
+shl-result c = search needs
+
+returns : tie.Need-returns
+returns c = (tag-is (c .before .args .self .0) 3, root-off (c .before .args .self .0))
+
+pub root-index-spec : {M : Type 1} → statement M
+root-index-spec = tie.close (tie.spec cast-result shl-result returns)
