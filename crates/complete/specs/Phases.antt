@@ -18,7 +18,7 @@ use Rattle.kept.specs.Seen.{seenBy}
 use Rattle.kept.specs.Step.{rootTurned}
 use Rattle.kept.specs.Layout.{ofWords}
 use Rattle.kept_laws.specs.Given.{sized, planned}
-use Rattle.kept_laws.specs.Halves.{half}
+use Rattle.words.specs.Halves.{half}
 
 -- ---- what a phase is lent
 

@@ -13,7 +13,7 @@ use Rattle.kept.specs.Evaluation.{Evaluation}
 use Rattle.kept.specs.Parts.{withWorklist, withSupport, withCandidate}
 use Rattle.kept.specs.Layout.{flat, image, section, ofWords, written, worklistStart, candidateStart, missingStart, used}
 use Rattle.kept.specs.LayoutLaws.{Fits, fits-of, length-unused}
-use Rattle.kept_laws.specs.Halves.{half}
+use Rattle.words.specs.Halves.{half}
 use Rattle.kept_laws.specs.Stores.{withMembers, withOthers, lend-candidate}
 use Rattle.kept_laws.specs.Written.{written-same, written-again, length-written}
 use Rattle.kept_laws.specs.Wrote.{mid-holds}

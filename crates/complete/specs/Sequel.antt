@@ -22,7 +22,8 @@ use Rattle.kept.specs.Check.{nodeEntry, producerEntry, rootEntry, tablesAdmissi
 use Rattle.kept.specs.Layout.{ofWords, written, used}
 use Rattle.kept.specs.LayoutLaws.{Fits, fits-of}
 use Rattle.kept_laws.specs.Given.{sized}
-use Rattle.kept_laws.specs.Halves.{half, halves}
+use Rattle.words.specs.Halves.{half}
+use Rattle.kept_laws.specs.Halves.{halves}
 use Rattle.kept_laws.specs.Wrote.{mid-holds}
 use Rattle.complete.specs.Laid.{Laid, laid-same, laid-stop, laid-after, laid-holds, laid-then}
 use Rattle.complete.specs.Phases.{begun, truthsLaid, supportLaid, missingLaid, rootsLaid, summarised}

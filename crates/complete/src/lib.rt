@@ -15,7 +15,7 @@ ghost use Rattle.kept.specs.Evaluation.{present, bodyTrue, fresh};
 ghost use Rattle.kept.specs.Check.{nodeEntry, producerEntry, rootEntry, tablesAdmission};
 ghost use Rattle.kept.specs.Layout.{ofWords, written};
 ghost use Rattle.kept_laws.specs.Given.{supportAt, usedBy, sized, produced, rooted, planned};
-ghost use Rattle.kept_laws.specs.Halves.{half};
+ghost use Rattle.words.specs.Halves.{half};
 ghost use Rattle.kept_laws.specs.Wrote.{Wrote};
 ghost use Rattle.node_truth.specs.InWords.{seenOf, trueIn};
 ghost use Rattle.complete.specs.Laid.{Laid};
@@ -34,7 +34,7 @@ fn lay_halves(candidate: &[u64], part: &mut [u32])
 {
     let mut i = 0;
     while i < part.len() {
-        part[i] = retained::half_word(candidate, i);
+        part[i] = words::half_word(candidate, i);
         i += 1;
     }
 }
@@ -163,7 +163,7 @@ fn adds(kept: &[u32], body: usize) -> u32
     requires { ⌜ 8 + body ≤ length (now kept) ⌝ }
     ensures { λ r. ⌜ (r ≡ cond (bodyTrue (trueIn (now (kept .entry))) body) 1 0) × (r ≤ 1) ⌝ }
 {
-    if body_true(kept, body) { 1 } else { 0 }
+    body_true(kept, body) as u32
 }
 
 // Producer p: the support of its head goes up if it counts; false if its head is no atom or its body no node.

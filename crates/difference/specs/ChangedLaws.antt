@@ -21,7 +21,8 @@ use Rattle.kept.specs.Layout.{ofWords, used, candidateStart}
 use Rattle.kept.specs.LayoutLaws.{fits-of}
 use Rattle.kept.specs.Check.{changes}
 use Rattle.kept_laws.specs.Written.{get-candidate}
-use Rattle.kept_laws.specs.Halves.{half, difference, word-places, changes-next}
+use Rattle.words.specs.Halves.{half}
+use Rattle.kept_laws.specs.Halves.{difference, word-places, changes-next}
 
 -- the changes of the first i words that begin at a place
 unfoldable pub wordChanges : ℕ → List ℕ → List ℕ → ℕ → ℕ

@@ -15,7 +15,7 @@ use Rattle.kept.specs.Tables.{Tables}
 use Rattle.kept.specs.Layout.{ofWords}
 use Rattle.kept.specs.Check.{changes}
 use Rattle.kept_laws.specs.Given.{usedBy, sized, candidateAt}
-use Rattle.kept_laws.specs.Halves.{half}
+use Rattle.words.specs.Halves.{half}
 use Rattle.difference.specs.declared.Differing.{Differing}
 use Rattle.difference.specs.ChangedLaws.{wordChanges, all-none, all-more, all-most, word-more, changed-same, words-changes}
 use Rattle.difference.specs.Marks.{Same, SameFrom, Upto, Marked, Between}

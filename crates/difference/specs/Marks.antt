@@ -9,7 +9,7 @@ use Rattle.words.specs.Sets.{member}
 use Rattle.theory.specs.declared.Counts.{Counts}
 use Rattle.kept.specs.SetOf.{words32, words64}
 use Rattle.kept_laws.specs.Given.{candidateAt}
-use Rattle.kept_laws.specs.Halves.{half}
+use Rattle.words.specs.Halves.{half}
 
 -- word i of the kept candidate, whose words begin at `at`, is that of the new one
 abbrev pub Same : ℕ → List ℕ → List ℕ → ℕ → Type 0

@@ -12,7 +12,7 @@ use lib.Pow.{split}
 use Rattle.base.specs.Tests.{below-or, equal-or}
 use Rattle.words.specs.BitLaws.{ones-changed}
 use Rattle.words.specs.Changed.{changed}
-use Rattle.kept_laws.specs.Halves.{half}
+use Rattle.words.specs.Halves.{half}
 use Rattle.difference.specs.ChangedLaws.{wordChanges, word-more, none-changed}
 use Rattle.difference.specs.Marks.{Same, SameFrom}
 

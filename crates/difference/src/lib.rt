@@ -182,7 +182,7 @@ fn last_change(
     ensures { λ r. ⌜ Found at (now (kept .entry)) (now (candidate .entry)) (2 * pairs + 1) (now (marks .exit)) r ⌝ }
 {
     let old = kept[at + 2 * pairs];
-    let new = retained::half_word(candidate, 2 * pairs);
+    let new = words::half_word(candidate, 2 * pairs);
     if old == new {
         return d;
     }

@@ -1,57 +1,31 @@
 -- A candidate's u64 words as the u32 words of the kept evaluation, and their difference word by word.
 -- Assumes nothing.
-use Prim.Native.Nat.{ℕ, zero, suc, _<_, _≤_, _+_, _-_, _*_, _/_, _%_, _^_}
+use Prim.Native.Nat.{ℕ, zero, suc, _<_, _≤_, _+_, _*_, _/_, _%_, _^_}
 use native.Mathlib.Omega.{arith}
-use native.Mathlib.Nat.{mod-lt, zero-add}
+use native.Mathlib.Nat.{zero-add}
 use mathlib.Core.Path.{_≡_, refl, ap, ap₂, sym, _∙_}
 use mathlib.Core.Logic.{⊎-elim}
 use mathlib.Core.Bool.{Bool, true, false, _&&_}
 use mathlib.Core.List.{List, _∷_, map}
 use lib.Arith.{digits-div, digits-mod}
 use lib.Bits.{bitXor}
-use lib.Dec.{eqb, ltb}
+use lib.Dec.{ltb}
 use lib.ListN.{getD, List·getD-eq-default}
-use lib.Pow.{field, mod-mod-pow, pow-pos}
+use lib.Pow.{pow-pos}
 use borrow.Author.Tests.{lt-ltb, le-ltb}
 use Rattle.base.specs.Tests.{below-or}
 use Rattle.base.specs.Places.{places, places-yes, places-no, places-agree, count, count-split}
 use Rattle.formula.specs.Passes.{Within}
 use Rattle.words.specs.Bit.{bit}
-use Rattle.words.specs.BitLaws.{bit-shift, bit-xor}
+use Rattle.words.specs.BitLaws.{bit-xor}
 use Rattle.words.specs.Changed.{unlike}
+use Rattle.words.specs.Halves.{half, half-bit, half-small}
 use Rattle.words.specs.Sets.{member}
 use Rattle.kept.specs.Tabulate.{tabulate, length-tabulate, tabulate-at}
 use Rattle.kept.specs.SetOf.{words32, setOf}
 use Rattle.kept.specs.SetOfLaws.{Small, setOf-is}
 
 -- ---- halves
-
--- half i of a list of u64 words: the low one of word i / 2 if i is even, else the high one
-unfoldable pub half : List ℕ → ℕ → ℕ
-half ws i = getD ws (i / 2) 0 / 2 ^ (i % 2 * 32) % 2 ^ 32
-
-pub digit-low : (y j : ℕ) → j < 32 → bit (y % 2 ^ 32) j ≡ bit y j
-unfolding bit
-digit-low y j l =
-    let e : 32 ≡ 31 - j + 1 + j = omega arith in
-    ap (λ d. eqb d 1) (ap (λ n. y % 2 ^ n / 2 ^ j % 2) e ∙ ap (λ z. z % 2) (field y (31 - j + 1) j) ∙ mod-mod-pow (y / 2 ^ j) (31 - j) 1)
-
-half-bit : (ws : List ℕ) (j : ℕ) → bit (half ws (j / 32)) (j % 32) ≡ member 64 ws j
-unfolding half member
-half-bit ws j =
-    digit-low (getD ws (j / 32 / 2) 0 / 2 ^ (j / 32 % 2 * 32)) (j % 32) (omega arith)
-    ∙ bit-shift (getD ws (j / 32 / 2) 0) (j / 32 % 2 * 32) (j % 32)
-    ∙ ap₂ (λ q r. bit (getD ws q 0) r) word place
-  where
-    word : j / 32 / 2 ≡ j / 64
-    word = omega arith
-
-    place : j / 32 % 2 * 32 + j % 32 ≡ j % 64
-    place = omega arith
-
-half-small : (ws : List ℕ) (i : ℕ) → half ws i < 2 ^ 32
-unfolding half
-half-small ws i = mod-lt (getD ws (i / 2) 0 / 2 ^ (i % 2 * 32)) (pow-pos 32)
 
 member-half : (ws : List ℕ) (n j : ℕ) → j < words32 n * 32 → member 32 (tabulate (words32 n) (half ws)) j ≡ member 64 ws j
 unfolding member

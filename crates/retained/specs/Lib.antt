@@ -4,5 +4,4 @@ pub mod Groups
 pub mod MemberLaws
 pub mod PresenceLaws
 pub mod SupportLaws
-pub mod TakeOffLaws
 pub mod QueueLaws

@@ -24,7 +24,6 @@ use Rattle.kept.specs.LayoutLaws.{Fits, fits-of}
 use Rattle.kept_laws.specs.Stores.{withMembers}
 use Rattle.kept_laws.specs.Exits.{moved-up, moved-full, moved-down, moved-empty}
 use Rattle.kept_laws.specs.FitsLaws.{roots-fit}
-use Rattle.kept_laws.specs.Halves.{half}
 use Rattle.kept_laws.specs.Written.{written-same, put-missing, put-missing-size, put-falseRoots, put-falseRoots-size, get-missing, get-missing-size, get-falseRoots, get-falseRoots-size}
 use Rattle.kept_laws.specs.Wrote.{Wrote, beside-same}
 use Rattle.retained.specs.Member.{digitPut, bitPut, memberPut, Put}
@@ -157,8 +156,3 @@ module _ (T : Tables) (ws : List ℕ) (long : used T ≤ length ws) where
       ∙ ap (λ w. set w 3 m) (put-falseRoots T ws long e fits (i / 32) v (omega arith))
       ∙ put-falseRoots-size T ws long (withFalseRoots e (withMembers (e .falseRoots) (set (e .falseRoots .members) (i / 32) v)))
       (roots-fit T e (withMembers (e .falseRoots) (set (e .falseRoots .members) (i / 32) v)) (length-set (e .falseRoots .members) (i / 32) v) fits) m)
-
--- word i of a candidate in words of 32 bits, as the code reads it
-pub half-read : (ws : List ℕ) (i : ℕ) → getD ws (i / 2) 0 / 2 ^ (i % 2 * 32) % 4294967296 ≡ half ws i
-unfolding half
-half-read ws i = refl

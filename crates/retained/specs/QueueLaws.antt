@@ -3,7 +3,6 @@
 use Prim.Native.Nat.{ℕ, _<_, _≤_, _+_, _-_, _*_, _/_, _%_, _^_}
 use native.Mathlib.Omega.{arith}
 use mathlib.Core.Path.{_≡_, refl, ap, sym, _∙_}
-use mathlib.Core.Logic.{⊎-elim}
 use mathlib.Core.Bool.{Bool, true, false, not, cond}
 use mathlib.Core.List.{List}
 use mathlib.Core.Option.{Option, some, none}
@@ -13,7 +12,6 @@ use lib.Dec.{eqb, ltb}
 use lib.ListN.{length, getD, set, take, drop, length-set, length-drop}
 use lib.Seq.{getD-set-same, length-take-le}
 use borrow.Author.Tests.{eq-eqb, ne-eqb, lt-ltb, le-ltb}
-use Rattle.base.specs.Tests.{below-or}
 use Rattle.words.specs.BitLaws.{trailing-below}
 use Rattle.words.specs.Next.{next}
 use Rattle.words.specs.NextLaws.{next-hit}
@@ -37,7 +35,7 @@ use Rattle.retained.specs.Member.{digitPut, bitPut, memberPut, Put}
 use Rattle.retained.specs.MemberLaws.{put-wrote}
 use Rattle.retained.specs.Changes.{waiting, advancedTo, dequeued}
 use Rattle.retained.specs.Groups.{regrouped}
-use Rattle.retained.specs.TakeOffLaws.{digit-off}
+use Rattle.words.specs.TakeOffLaws.{digit-off}
 
 -- a part of the words as long as it is lent
 pub lent-long : (at k : ℕ) (ws : List ℕ) → at + k ≤ length ws → length (take (at + k - at) (drop at ws)) ≡ k

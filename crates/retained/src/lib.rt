@@ -1,8 +1,7 @@
 // Changes of a kept evaluation in its lent words: `queue`, `presence`, `support` and `root` of tight/evaluate.rs. Each that can fail answers false where a count would leave its range.
 ghost use mathlib.Core.Path.{_≡_};
-ghost use mathlib.Core.Bool.{true, false, cond};
+ghost use mathlib.Core.Bool.{true, false};
 ghost use Prim.Native.Nat.{_+_, _-_, _*_, _/_, _<_, _≤_};
-ghost use lib.Dec.{ltb};
 ghost use lib.ListN.{length, getD, set};
 ghost use Rattle.theory.specs.Limits.{Limited};
 ghost use Rattle.words.specs.Next.{next};
@@ -11,7 +10,6 @@ ghost use Rattle.kept.specs.Tables.{Tables};
 ghost use Rattle.kept.specs.Layout.{ofWords};
 ghost use Rattle.kept.specs.Step.{entered, supportMoved, rootTurned};
 ghost use Rattle.kept_laws.specs.Given.{groupsAt, usedBy, sized, supplied};
-ghost use Rattle.kept_laws.specs.Halves.{half};
 ghost use Rattle.kept_laws.specs.Wrote.{Wrote};
 ghost use Rattle.retained.specs.Member.{Put, bitPut, memberPut};
 ghost use Rattle.retained.specs.Changes.{missingTurned, missingMoved, presenceTurned, waiting, advancedTo, dequeued};
@@ -289,12 +287,4 @@ pub fn support(counts: Counts, made: usize, kept: &mut [u32], a: usize, holds: b
     } else {
         lose(counts, kept, a)
     }
-}
-
-// Word i of a candidate in words of 32 bits.
-pub fn half_word(candidate: &[u64], i: usize) -> u32
-    requires { ⌜ i < 2 * length (now candidate) ⌝ }
-    ensures { λ r. ⌜ r ≡ half (now (candidate .entry)) i ⌝ }
-{
-    ((candidate[i / 2] >> (i % 2 * 32)) % 0x1_0000_0000) as u32
 }

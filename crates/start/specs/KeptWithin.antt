@@ -1,6 +1,6 @@
 -- The kept candidate has atoms alone if its words have no member past them: what a caller tests before the start.
 -- Assumes nothing.
-use Prim.Native.Nat.{ℕ, _≤_, _-_, _*_, _/_, _%_}
+use Prim.Native.Nat.{ℕ, _≤_, _*_, _/_, _%_}
 use native.Mathlib.Omega.{arith}
 use mathlib.Core.Path.{_≡_, ap, sym, _∙_}
 use mathlib.Core.Logic.{⊎-elim}

@@ -22,7 +22,7 @@ use Rattle.words.specs.SetLaws.{member-inserted, member-removed, inserted-small
 use Rattle.kept.specs.SetOfLaws.{Small, same-words}
 use Rattle.kept.specs.CountedSet.{withBit}
 use Rattle.kept_laws.specs.FitsLaws.{length-bit}
-use Rattle.kept_laws.specs.Halves.{digit-low}
+use Rattle.words.specs.Halves.{digit-low}
 use Rattle.kept_laws.specs.StartChanged.{bit-other}
 use Rattle.start.specs.PairLaws.{place-member}
 use Rattle.start.specs.Moved.{bitsLaid}

@@ -21,7 +21,8 @@ use Rattle.kept.specs.Tables.{Tables, atomCount}
 use Rattle.kept.specs.Evaluation.{present}
 use Rattle.kept.specs.Layout.{ofWords, used, candidateStart}
 use Rattle.kept.specs.LayoutLaws.{fits-of}
-use Rattle.kept_laws.specs.Halves.{digit-low, places-shift}
+use Rattle.words.specs.Halves.{digit-low}
+use Rattle.kept_laws.specs.Halves.{places-shift}
 use Rattle.kept_laws.specs.Written.{get-candidate}
 use Rattle.start.specs.WordLaws.{wordAtoms}
 

@@ -28,7 +28,8 @@ use Rattle.kept.specs.Layout.{ofWords, used, candidateStart}
 use Rattle.kept.specs.LayoutLaws.{Fits, fits-of}
 use Rattle.kept_laws.specs.FitsLaws.{atom-fits}
 use Rattle.kept_laws.specs.OptionLaws.{some-is, then-some}
-use Rattle.kept_laws.specs.Halves.{half, halves}
+use Rattle.words.specs.Halves.{half}
+use Rattle.kept_laws.specs.Halves.{halves}
 use Rattle.kept_laws.specs.StartChanged.{allTurned, start-changed, turned-present}
 use Rattle.kept_laws.specs.Written.{get-candidate, of-written}
 use Rattle.difference.specs.Marks.{Same, Upto}

@@ -1,9 +1,10 @@
 // Words lent in slices: read as numbers, and as sets of bits.
 ghost use mathlib.Core.Path.{_≡_};
-ghost use Prim.Native.Nat.{_<_, max, min};
+ghost use Prim.Native.Nat.{_*_, _<_, max, min};
 ghost use lib.ListN.{length, getD, replicate};
 ghost use Rattle.base.specs.Places.{places};
 ghost use Rattle.words.specs.Bit.{bit};
+ghost use Rattle.words.specs.Halves.{half};
 
 pub mod set32;
 pub mod set64;
@@ -24,6 +25,14 @@ pub fn word64(table: &[u64], i: usize) -> usize
 {
     let x = table[i];
     x as usize
+}
+
+// Word i of a list of u64 words taken as u32 words.
+pub fn half_word(table: &[u64], i: usize) -> u32
+    requires { ⌜ i < 2 * length (now table) ⌝ }
+    ensures { λ r. ⌜ r ≡ half (now (table .entry)) i ⌝ }
+{
+    ((table[i / 2] >> (i % 2 * 32)) % 0x1_0000_0000) as u32
 }
 
 // All words become 0.

@@ -1,5 +1,5 @@
 use Rattle.complete.specs.Fills.{fill-none, fill-more, fill-done}
-use Rattle.kept_laws.specs.Halves.{half}
+use Rattle.words.specs.Halves.{half}
 use Rattle.kept_laws.specs.Filling.{filled}
 use lib.ListN.{length, length-set}
 use Prim.Native.Nat.{_-_, _≤_}
@@ -10,7 +10,7 @@ use Rattle.complete.proofs.lay_halves.Statement.{statement}
 use Rattle.complete.proofs.lay_halves.Tie as tie
 use Rattle.complete.proofs.lay_halves.Reads as reads
 use Rattle.complete.proofs.lay_halves.Lts as lts
-use Rattle.retained.proofs.half_word.Reads as half-word-reads
+use Rattle.words.proofs.half_word.Reads as half-word-reads
 
 abbrev Inv-loop : tie.InvT-loop
 Inv-loop candidate part₀ i₀ part i = (i ≤ length part₀) × (length part ≡ length part₀) × (part ≡ filled i (half candidate) part₀)
