@@ -109,7 +109,7 @@ fn same_block(candidate: &[u64], kept: &[u32], at: usize, first: usize) -> bool
     d == 0
 }
 
-// Whether pairs `first` to `end`, 16 at most, are seen to be the same: where they are fewer, or hardly more than all, they are not looked at.
+// Whether pairs `first` to `end`, 16 at most, are seen to be the same: where they are fewer, or all there are, they are not looked at.
 fn same_pairs(candidate: &[u64], kept: &[u32], at: usize, first: usize, end: usize) -> bool
     requires { ⌜ (first ≤ end) × (end ≤ first + 16) × (end ≤ length (now candidate)) × (at + 2 * end ≤ length (now kept)) ⌝ }
     ensures { λ r. ⌜ (r ≡ true → SameFrom at (now (kept .entry)) (now (candidate .entry)) first end) ⌝ }
