@@ -12,6 +12,7 @@ use Rattle.theory.specs.declared.Node.{Node}
 use Rattle.theory.specs.declared.Node.the-variants.{Atom, False, Implies, And, Or, Unknown}
 use Rattle.readers.specs.Incidences.{Item, item, atomSlot, operandItems, nodeItems, bodyItems, producerItems, rootItems}
 use Rattle.readers.specs.Reader.{nodeReader, producerReader, rootReader, byTag, readingOf}
+use Rattle.readers.specs.ReaderLaws.{tagOf, indexOf, read-parts}
 use Rattle.readers.specs.declared.Reading.{Reading}
 use Rattle.readers.specs.declared.Reading.the-variants as reading
 
@@ -96,34 +97,7 @@ tag-is x t l =
     let none : bitXor (x / 2 ^ 62) t ≡ 0 = omega (arith, parts x t) in
     ap₂ byTag (same-tag (x / 2 ^ 62) t none) (sym (parts x t ∙ rw none (zero-add (x % 2 ^ 62))))
 
-tag-off : (x t : ℕ) → x / 2 ^ 62 ≡ t → bitXor x (t * 2 ^ 62) ≡ x % 2 ^ 62
-tag-off x t e = parts x t ∙ rw (e, xor-self t) (zero-add (x % 2 ^ 62))
-
-module _ (x i : ℕ) where
-  pub producer-off : readingOf x ≡ reading.Producer i → bitXor x (2 * 2 ^ 62) ≡ i
-  unfolding readingOf
-  producer-off h = go (x / 2 ^ 62) refl h
-    where
-      index : reading.Producer (x % 2 ^ 62) ≡ reading.Producer i → x % 2 ^ 62 ≡ i
-      index e = cc
-
-      go : (tag : ℕ) → x / 2 ^ 62 ≡ tag → byTag tag (x % 2 ^ 62) ≡ reading.Producer i → bitXor x (2 * 2 ^ 62) ≡ i
-      go zero t e = cc
-      go (suc zero) t e = cc
-      go (suc (suc zero)) t e = tag-off x 2 t ∙ index e
-      go (suc (suc (suc zero))) t e = cc
-      go (suc (suc (suc (suc n)))) t e = cc
-
-  pub root-off : readingOf x ≡ reading.Root i → bitXor x (3 * 2 ^ 62) ≡ i
-  unfolding readingOf
-  root-off h = go (x / 2 ^ 62) refl h
-    where
-      index : reading.Root (x % 2 ^ 62) ≡ reading.Root i → x % 2 ^ 62 ≡ i
-      index e = cc
-
-      go : (tag : ℕ) → x / 2 ^ 62 ≡ tag → byTag tag (x % 2 ^ 62) ≡ reading.Root i → bitXor x (3 * 2 ^ 62) ≡ i
-      go zero t e = cc
-      go (suc zero) t e = cc
-      go (suc (suc zero)) t e = cc
-      go (suc (suc (suc zero))) t e = tag-off x 3 t ∙ index e
-      go (suc (suc (suc (suc n)))) t e = cc
+pub index-is : (x : ℕ) (r : Reading) → readingOf x ≡ r → (tagOf r ≡ 1 → ⊥) → bitXor x (tagOf r * 2 ^ 62) ≡ indexOf r
+index-is x r h ne =
+    let p = read-parts x r h ne in
+    parts x (tagOf r) ∙ rw (p .0, xor-self (tagOf r)) (zero-add (x % 2 ^ 62)) ∙ p .1

@@ -1,6 +1,7 @@
 pub mod Joined
 pub mod Laid
 pub mod Reader
+pub mod ReaderLaws
 pub mod Incidences
 pub mod Readers
 pub mod AtomNodes

@@ -1,6 +1,6 @@
 -- What each branch on a reader gives: the reader was told, or it is a 17.
 -- Assumes nothing.
-use Prim.Native.Nat.{ℕ, zero, suc, _/_, _%_, _^_, _<_, _≤_}
+use Prim.Native.Nat.{ℕ, _<_, _≤_}
 use native.Mathlib.Nat.{zero-add}
 use native.Mathlib.Omega.{arith}
 use mathlib.Core.Path.{_≡_, refl, ap, sym, _∙_}
@@ -10,7 +10,8 @@ use mathlib.Core.List.{List}
 use mathlib.Core.Option.{none}
 use borrow.Author.Tests.{lt-ltb, le-ltb}
 use Rattle.readers.specs.declared.Reading.{Reading}
-use Rattle.readers.specs.Reader.{packed, byTag, readingOf, packed-read}
+use Rattle.readers.specs.Reader.{packed, readingOf, packed-read}
+use Rattle.readers.specs.ReaderLaws.{read-parts}
 use Rattle.readers.specs.declared.Reading.the-variants.{Node, Producer, Root, Unknown}
 use Rattle.kept.specs.Tables.{Tables, atomCount, nodeCount, rootCount, headAt}
 use Rattle.kept.specs.Evaluation.{Evaluation}
@@ -25,18 +26,7 @@ small-read word n l h = ap readingOf (sym (zero-add word)) ∙ packed-read 0 wor
 
 -- a node that is read has its word's number
 node-read : (word m : ℕ) → readingOf word ≡ Node m → m ≡ word
-unfolding readingOf
-node-read word m h = go (word / 2 ^ 62) refl h
-  where
-    index : Node (word % 2 ^ 62) ≡ Node m → word % 2 ^ 62 ≡ m
-    index e = cc
-
-    go : (tag : ℕ) → word / 2 ^ 62 ≡ tag → byTag tag (word % 2 ^ 62) ≡ Node m → m ≡ word
-    go zero t e = omega (arith, index e)
-    go (suc zero) t e = cc
-    go (suc (suc zero)) t e = cc
-    go (suc (suc (suc zero))) t e = cc
-    go (suc (suc (suc (suc n)))) t e = cc
+node-read word m h = let p = read-parts word (Node m) h (λ z. omega (arith, z)) in omega (arith, p .0, p .1)
 
 -- the word reads x, which the code found as r
 module _ (T : Tables) (ws : List ℕ) (k : ℕ) (t : Bool) (x r : Reading) (is : r ≡ x) where
