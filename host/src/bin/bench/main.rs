@@ -1,8 +1,9 @@
 //! Times libtight.a beside the Rust that it is carried over from, in one process and on the same
 //! inputs, after seeing that both answer the same.
 //!
-//! `bench [SECONDS [WORD]]`: each measure takes at least SECONDS (0.4 if none are given), and only
-//! shapes whose name is WORD are timed. It prints medians and ratios, ours / Rust.
+//! `bench [SECONDS [WORD]]`: each measure takes at least SECONDS (0.4 if none are given), a third of
+//! it in each of three passes, and only shapes whose name is WORD are timed. It prints medians and
+//! ratios, ours / Rust, at its end.
 
 #[path = "../../shared/drawing.rs"]
 #[allow(dead_code, reason = "differ uses the rest")]
@@ -37,6 +38,9 @@ const LOAD: (usize, usize) = (1024, 4096);
 /// The growth table's sizes, as multiples of the least one.
 const GROWTH: [usize; 3] = [1, 10, 100];
 
+/// The passes over all rows, an odd number.
+const PASSES: usize = 3;
+
 type Shape = (&'static str, fn(usize) -> Input);
 
 const SHAPES: [Shape; 5] = [
@@ -62,60 +66,145 @@ fn time(nanoseconds: f64) -> String {
     }
 }
 
-/// Ratio, our time, the Rust's time.
-fn cell(times: Times) -> String {
-    let ratio = times.ratio();
-    format!("{ratio:.2} ({}, {})", time(times.ours), time(times.rust))
+/// Both times, and of a kept check the nodes gone over on the average.
+#[derive(Clone, Copy, Debug)]
+struct Cell {
+    times: Times,
+    over: f64,
 }
 
-/// One row of the table: all measures of an input.
-fn shape(name: &str, input: Input, least: Duration) {
+impl Cell {
+    fn new(times: Times) -> Self {
+        Self { times, over: 0.0 }
+    }
+
+    /// Ratio, our time, the Rust's time.
+    fn text(&self) -> String {
+        let Times { ours, rust } = self.times;
+        format!("{:.2} ({}, {})", self.times.ratio(), time(ours), time(rust))
+    }
+}
+
+/// What an input is, and its measures.
+#[derive(Clone, Debug)]
+struct Row {
+    input: Vec<String>,
+    cells: Vec<Cell>,
+}
+
+/// All measures of an input.
+fn shape(name: &str, input: Input, least: Duration) -> Row {
     let mut both = Both::new(input, least);
     let counts = both.counts();
-    let mut cells = vec![
-        name.to_owned(),
-        counts.nodes.to_string(),
-        format!("{}, {}, {}", counts.atoms, counts.operands, counts.roots),
-    ];
-    cells.extend(both.plan().map(cell));
-    cells.extend(both.fresh().map(cell));
+    let mut cells: Vec<_> = both.plan().map(Cell::new).into();
+    cells.extend(both.fresh().map(Cell::new));
     for changes in [1, 8, 64] {
-        let (kept, over) = both.kept(changes);
-        cells.push(format!("{}; {over:.0}", cell(kept)));
+        let (times, over) = both.kept(changes);
+        cells.push(Cell { times, over });
     }
-    println!("| {} |", cells.join(" | "));
+    Row {
+        input: vec![
+            name.to_owned(),
+            counts.nodes.to_string(),
+            format!("{}, {}, {}", counts.atoms, counts.operands, counts.roots),
+        ],
+        cells,
+    }
 }
 
-fn growth(least: Duration) {
+/// The rows of the shapes that are wanted.
+fn shapes(wanted: impl Fn(&str) -> bool, least: Duration) -> Vec<Row> {
+    let mut rows = Vec::new();
+    for (name, input) in SHAPES {
+        if !wanted(name) {
+            continue;
+        }
+        for nodes in SIZES {
+            rows.push(shape(name, input(nodes), least));
+            if name == "load" && nodes == SIZES[0] {
+                rows.push(shape(name, shapes::load(14, LOAD.0, LOAD.1), least));
+            }
+        }
+    }
+    rows
+}
+
+/// The growth table's rows, each with one measure.
+fn growth(least: Duration) -> Vec<Row> {
+    let mut rows = Vec::new();
+    for (name, input) in GROWING {
+        let mut sizes = GROWTH.map(|times| Both::new(input(times), least));
+        for changes in [1, 8] {
+            for both in &mut sizes {
+                let (times, over) = both.kept(changes);
+                let nodes = both.counts().nodes.to_string();
+                rows.push(Row {
+                    input: vec![name.to_owned(), changes.to_string(), nodes],
+                    cells: vec![Cell { times, over }],
+                });
+            }
+        }
+    }
+    rows
+}
+
+/// The same rows measured in several passes, so that what slows the machine down for a while does
+/// not decide a measure: of each cell the one whose ratio stands in the middle.
+fn in_passes(mut pass: impl FnMut() -> Vec<Row>) -> Vec<Row> {
+    let passes = [(); PASSES].map(|()| pass());
+    let mut rows = passes[0].clone();
+    for (r, row) in rows.iter_mut().enumerate() {
+        for (c, cell) in row.cells.iter_mut().enumerate() {
+            let mut cells = passes.each_ref().map(|rows| rows[r].cells[c]);
+            cells.sort_by(|x, y| x.times.ratio().total_cmp(&y.times.ratio()));
+            *cell = cells[PASSES / 2];
+        }
+    }
+    rows
+}
+
+fn print_shapes(rows: &[Row]) {
+    println!(
+        "| shape | nodes | atoms, operand entries, roots | plan | plan, Rust with admission \
+         | fresh | fresh, then equal | kept 1; nodes | kept 8; nodes | kept 64; nodes |"
+    );
+    println!("|---|---|---|---|---|---|---|---|---|---|");
+    for row in rows {
+        let (whole, kept) = row.cells.split_at(row.cells.len() - 3);
+        let mut texts = row.input.clone();
+        texts.extend(whole.iter().map(Cell::text));
+        texts.extend(
+            kept.iter()
+                .map(|cell| format!("{}; {:.0}", cell.text(), cell.over)),
+        );
+        println!("| {} |", texts.join(" | "));
+    }
+}
+
+fn print_growth(rows: &[Row]) {
     println!(
         "\n| shape | changed | nodes | ours | Rust | ratio | ours, tenfold | Rust, tenfold | nodes gone over |"
     );
     println!("|---|---|---|---|---|---|---|---|---|");
-    for (name, input) in GROWING {
-        let mut sizes: Vec<_> = GROWTH
-            .iter()
-            .map(|&times| Both::new(input(times), least))
-            .collect();
-        for changes in [1, 8] {
-            let mut last: Option<Times> = None;
-            for both in &mut sizes {
-                let (times, over) = both.kept(changes);
-                let factors = last.map_or_else(
-                    || "| | |".to_owned(),
-                    |last| {
-                        let (ours, rust) = (times.ours / last.ours, times.rust / last.rust);
-                        format!("| {ours:.1} | {rust:.1} |")
-                    },
-                );
-                println!(
-                    "| {name} | {changes} | {} | {} | {} | {:.2} {factors} {over:.0} |",
-                    both.counts().nodes,
-                    time(times.ours),
-                    time(times.rust),
-                    times.ratio(),
-                );
-                last = Some(times);
-            }
+    for sizes in rows.chunks(GROWTH.len()) {
+        let mut last: Option<Times> = None;
+        for row in sizes {
+            let Cell { times, over } = row.cells[0];
+            let factors = last.map_or_else(
+                || "| | |".to_owned(),
+                |last| {
+                    let (ours, rust) = (times.ours / last.ours, times.rust / last.rust);
+                    format!("| {ours:.1} | {rust:.1} |")
+                },
+            );
+            println!(
+                "| {} | {} | {} | {:.2} {factors} {over:.0} |",
+                row.input.join(" | "),
+                time(times.ours),
+                time(times.rust),
+                times.ratio(),
+            );
+            last = Some(times);
         }
     }
 }
@@ -155,26 +244,12 @@ fn main() -> ExitCode {
         }
     };
     let wanted = |name: &str| word.is_none_or(|word| word == name);
+    let least = least / PASSES as u32;
     if SHAPES.iter().any(|(name, _)| wanted(name)) {
-        println!(
-            "| shape | nodes | atoms, operand entries, roots | plan | plan, Rust with admission \
-             | fresh | fresh, then equal | kept 1; nodes | kept 8; nodes | kept 64; nodes |"
-        );
-        println!("|---|---|---|---|---|---|---|---|---|---|");
-    }
-    for (name, input) in SHAPES {
-        if !wanted(name) {
-            continue;
-        }
-        for nodes in SIZES {
-            shape(name, input(nodes), least);
-            if name == "load" && nodes == SIZES[0] {
-                shape(name, shapes::load(14, LOAD.0, LOAD.1), least);
-            }
-        }
+        print_shapes(&in_passes(|| shapes(wanted, least)));
     }
     if wanted("growth") {
-        growth(least);
+        print_growth(&in_passes(|| growth(least)));
     }
     ExitCode::SUCCESS
 }

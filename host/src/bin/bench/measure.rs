@@ -25,10 +25,10 @@ impl Times {
     }
 }
 
-/// The fewest runs of a measure.
-const RUNS: usize = 9;
+/// The fewest runs of a measure in a pass.
+const RUNS: usize = 5;
 
-/// The most runs of a measure.
+/// The most runs of a measure in a pass.
 const MOST_RUNS: usize = 20_001;
 
 /// Changed candidates of a series; between each two stands the base.
