@@ -44,12 +44,10 @@ fn empty(counts: Counts, kept: &mut [u32])
     requires { ⌜ Limited counts × (usedBy counts ≤ length (now kept)) ⌝ }
     ensures { λ _. ⌜ ((T : Tables) → now (kept .exit) ≡ written (sized counts T) (now (kept .entry)) (emptied (sized counts T) (ofWords (sized counts T) (now (kept .entry))))) ⌝ }
 {
-    let n = counts.nodes;
-    let a = counts.atoms;
-    let worklist = 8 + n;
-    let candidate = worklist + (n + 31) / 32 + a;
-    let missing = candidate + (a + 31) / 32;
-    let end = missing + (a + 31) / 32 + (counts.roots + 31) / 32 + (n + 31) / 32;
+    let worklist = 8 + counts.nodes;
+    let candidate = kept_laws::candidate_at(counts);
+    let missing = kept_laws::missing_at(counts);
+    let end = kept_laws::groups_at(counts) + (counts.nodes + 31) / 32;
     words::clear(&mut kept[worklist..candidate]);
     words::clear(&mut kept[missing..end]);
 }
@@ -58,9 +56,8 @@ fn lay_candidate(counts: Counts, candidate: &[u64], kept: &mut [u32])
     requires { ⌜ Limited counts × (length (now candidate) ≡ words64 (counts .atoms)) × (usedBy counts ≤ length (now kept)) ⌝ }
     ensures { λ _. ⌜ ((T : Tables) → now (kept .exit) ≡ written (sized counts T) (now (kept .entry)) (withHalves (sized counts T) (now (candidate .entry)) (ofWords (sized counts T) (now (kept .entry))))) ⌝ }
 {
-    let n = counts.nodes;
-    let at = 8 + n + (n + 31) / 32 + counts.atoms;
-    let end = at + (counts.atoms + 31) / 32;
+    let at = kept_laws::candidate_at(counts);
+    let end = kept_laws::missing_at(counts);
     lay_halves(candidate, &mut kept[at..end]);
 }
 
@@ -179,8 +176,7 @@ fn count_producer(counts: Counts, producers: &[u32], kept: &mut [u32], p: usize)
     if body > counts.nodes {
         return false;
     }
-    let n = counts.nodes;
-    let at = 8 + n + (n + 31) / 32 + head;
+    let at = kept_laws::support_at(counts) + head;
     // no branch goes by the body's truth
     kept[at] = kept[at] + adds(kept, body);
     true
@@ -206,8 +202,7 @@ fn lacking(counts: Counts, kept: &[u32], q: usize) -> u32
     requires { ⌜ Limited counts × (32 * q + 32 ≤ counts .atoms) × (usedBy counts ≤ length (now kept)) ⌝ }
     ensures { λ r. ⌜ ((k : ℕ) → k < 32 → bit r k ≡ lacksIn counts (now (kept .entry)) (32 * q + k)) ⌝ }
 {
-    let n = counts.nodes;
-    let support = 8 + n + (n + 31) / 32;
+    let support = kept_laws::support_at(counts);
     let x = kept[support + counts.atoms + q];
     if x == 0 {
         return 0;
@@ -221,8 +216,7 @@ fn lacks(counts: Counts, kept: &[u32], a: usize) -> bool
     requires { ⌜ Limited counts × (a < counts .atoms) × (usedBy counts ≤ length (now kept)) ⌝ }
     ensures { λ r. ⌜ r ≡ lacksIn counts (now (kept .entry)) a ⌝ }
 {
-    let n = counts.nodes;
-    node_truth::present(counts, kept, a) && kept[8 + n + (n + 31) / 32 + a] == 0
+    node_truth::present(counts, kept, a) && kept[kept_laws::support_at(counts) + a] == 0
 }
 
 // The lowest atom from `from` on that is in the candidate and has no support, atom by atom.

@@ -202,8 +202,7 @@ pub fn difference(counts: Counts, candidate: &[u64], kept: &[u32], marks: &mut [
     ensures { λ _. ⌜ Marked counts (now (kept .entry)) (now (candidate .entry)) (now (marks .exit)) ⌝ }
     ensures { λ r. ⌜ Between counts (now (kept .entry)) (now (candidate .entry)) (r .first) (r .end) ⌝ }
 {
-    let n = counts.nodes;
-    let at = 8 + n + (n + 31) / 32 + counts.atoms;
+    let at = kept_laws::candidate_at(counts);
     let words = (counts.atoms + 31) / 32;
     let pairs = words / 2;
     let d = all_changes(candidate, kept, at, pairs, marks);

@@ -39,8 +39,7 @@ pub fn present(counts: Counts, kept: &[u32], a: usize) -> bool
     requires { ⌜ Limited counts × (a < counts .atoms) × (usedBy counts ≤ length (now kept)) ⌝ }
     ensures { λ r. ⌜ r ≡ presentIn counts (now (kept .entry)) a ⌝ }
 {
-    let n = counts.nodes;
-    let at = 8 + n + (n + 31) / 32 + counts.atoms + a / 32;
+    let at = kept_laws::candidate_at(counts) + a / 32;
     (kept[at] >> (a % 32)) % 2 == 1
 }
 

@@ -66,16 +66,6 @@ fn turn(kept: &mut [u32], at: usize, size: usize, most: usize, i: usize, x: bool
     }
 }
 
-// Where the groups of the worklist's words begin.
-fn groups_at(counts: Counts) -> usize
-    requires { ⌜ Limited counts ⌝ }
-    ensures { λ r. ⌜ r ≡ groupsAt counts ⌝ }
-{
-    let n = counts.nodes;
-    let a = counts.atoms;
-    8 + n + (n + 31) / 32 + a + (a + 31) / 32 + (a + 31) / 32 + (counts.roots + 31) / 32
-}
-
 // Node m among those that wait behind the first.
 fn wait(counts: Counts, kept: &mut [u32], m: usize) -> bool
     requires { ⌜ Limited counts × (m < counts .nodes) × (usedBy counts ≤ length (now kept)) ⌝ }
@@ -84,7 +74,7 @@ fn wait(counts: Counts, kept: &mut [u32], m: usize) -> bool
     if !include(kept, 8 + counts.nodes, 4, counts.nodes, m) {
         return false;
     }
-    mark(kept, groups_at(counts), m / 32, true);
+    mark(kept, kept_laws::groups_at(counts), m / 32, true);
     true
 }
 
@@ -113,7 +103,7 @@ fn next_group(counts: Counts, kept: &[u32], q: usize) -> usize
     requires { ⌜ Limited counts × (q < counts .nodes) × (usedBy counts ≤ length (now kept)) ⌝ }
     ensures { λ r. ⌜ ((T : Tables) → r ≡ next 32 (ofWords (sized counts T) (now (kept .entry)) .worklist .groups) q) ⌝ }
 {
-    let at = groups_at(counts);
+    let at = kept_laws::groups_at(counts);
     let end = at + (counts.nodes + 31) / 32;
     words::set32::next(&kept[at..end], q)
 }
@@ -124,7 +114,7 @@ fn regroup(counts: Counts, kept: &mut [u32], q: usize, rest: u32)
     ensures { λ _. ⌜ now (kept .exit) ≡ regrouped (groupsAt counts) q rest (now (kept .entry)) ⌝ }
 {
     if rest == 0 {
-        mark(kept, groups_at(counts), q, false);
+        mark(kept, kept_laws::groups_at(counts), q, false);
     }
 }
 
@@ -176,9 +166,7 @@ pub fn root(counts: Counts, kept: &mut [u32], p: usize, holds: bool) -> bool
     requires { ⌜ Limited counts × (p < counts .roots) × (usedBy counts ≤ length (now kept)) ⌝ }
     ensures { λ r. ⌜ ((T : Tables) → Wrote (sized counts T) (now (kept .entry)) (rootTurned (sized counts T) holds p (ofWords (sized counts T) (now (kept .entry)))) r (now (kept .exit))) ⌝ }
 {
-    let n = counts.nodes;
-    let a = counts.atoms;
-    let at = 8 + n + (n + 31) / 32 + a + (a + 31) / 32 + (a + 31) / 32;
+    let at = kept_laws::false_roots_at(counts);
     turn(kept, at, 3, counts.roots, p, !holds)
 }
 
@@ -187,8 +175,7 @@ pub fn missing(counts: Counts, kept: &mut [u32], a: usize, lacking: bool) -> boo
     requires { ⌜ Limited counts × (a < counts .atoms) × (usedBy counts ≤ length (now kept)) ⌝ }
     ensures { λ r. ⌜ ((T : Tables) → Wrote (sized counts T) (now (kept .entry)) (missingTurned (sized counts T) a lacking (ofWords (sized counts T) (now (kept .entry)))) r (now (kept .exit))) ⌝ }
 {
-    let n = counts.nodes;
-    let at = 8 + n + (n + 31) / 32 + counts.atoms + (counts.atoms + 31) / 32;
+    let at = kept_laws::missing_at(counts);
     turn(kept, at, 2, counts.atoms, a, lacking)
 }
 
@@ -197,9 +184,8 @@ pub fn presence(counts: Counts, kept: &mut [u32], a: usize, x: bool) -> bool
     requires { ⌜ Limited counts × (a < counts .atoms) × (usedBy counts ≤ length (now kept)) ⌝ }
     ensures { λ r. ⌜ ((T : Tables) → Wrote (sized counts T) (now (kept .entry)) (presenceTurned (sized counts T) a x (ofWords (sized counts T) (now (kept .entry)))) r (now (kept .exit))) ⌝ }
 {
-    let n = counts.nodes;
-    let support = 8 + n + (n + 31) / 32;
-    let lacking = x && kept[support + a] == 0;
+    let at = kept_laws::support_at(counts) + a;
+    let lacking = x && kept[at] == 0;
     missing(counts, kept, a, lacking)
 }
 
@@ -234,8 +220,7 @@ fn gain(counts: Counts, made: usize, kept: &mut [u32], a: usize) -> bool
     requires { ⌜ Limited counts × (made ≤ counts .roots) × (a < counts .atoms) × (usedBy counts ≤ length (now kept)) ⌝ }
     ensures { λ r. ⌜ ((T : Tables) → Wrote (supplied counts made T) (now (kept .entry)) (supportMoved (supplied counts made T) true a (ofWords (supplied counts made T) (now (kept .entry)))) r (now (kept .exit))) ⌝ }
 {
-    let n = counts.nodes;
-    let at = 8 + n + (n + 31) / 32 + a;
+    let at = kept_laws::support_at(counts) + a;
     let before = words::word(kept, at);
     if before >= made {
         return false;
@@ -264,8 +249,7 @@ fn lose(counts: Counts, kept: &mut [u32], a: usize) -> bool
     requires { ⌜ Limited counts × (a < counts .atoms) × (usedBy counts ≤ length (now kept)) ⌝ }
     ensures { λ r. ⌜ ((T : Tables) → Wrote (sized counts T) (now (kept .entry)) (supportMoved (sized counts T) false a (ofWords (sized counts T) (now (kept .entry)))) r (now (kept .exit))) ⌝ }
 {
-    let n = counts.nodes;
-    let at = 8 + n + (n + 31) / 32 + a;
+    let at = kept_laws::support_at(counts) + a;
     let before = words::word(kept, at);
     if before == 0 {
         return false;

@@ -66,8 +66,7 @@ fn old_pair(counts: Counts, kept: &[u32], j: usize) -> u64
     requires { ⌜ Limited counts × (usedBy counts ≤ length (now kept)) × (j < words64 (counts .atoms)) ⌝ }
     ensures { λ r. ⌜ ((T : Tables) (k : ℕ) → k < 64 → present (ofWords (sized counts T) (now (kept .entry))) (j * 64 + k) ≡ bit r k) ⌝ }
 {
-    let n = counts.nodes;
-    let at = 8 + n + (n + 31) / 32 + counts.atoms + 2 * j;
+    let at = kept_laws::candidate_at(counts) + 2 * j;
     if 64 * j + 32 < counts.atoms {
         return difference::pair(kept, at);
     }
@@ -79,8 +78,7 @@ fn lay_pair(counts: Counts, kept: &mut [u32], j: usize, new: u64)
     requires { ⌜ Limited counts × (usedBy counts ≤ length (now kept)) × (j < words64 (counts .atoms)) ⌝ }
     ensures { λ _. ⌜ now (kept .exit) ≡ pairLaid counts j new (now (kept .entry)) ⌝ }
 {
-    let n = counts.nodes;
-    let at = 8 + n + (n + 31) / 32 + counts.atoms + 2 * j;
+    let at = kept_laws::candidate_at(counts) + 2 * j;
     kept[at] = (new % 0x1_0000_0000) as u32;
     if counts.atoms > 64 * j + 32 {
         kept[at + 1] = (new >> 32) as u32;

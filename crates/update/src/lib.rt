@@ -83,12 +83,11 @@ fn stray_member(counts: Counts, kept: &[u32]) -> bool
     requires { ⌜ Limited counts × (usedBy counts ≤ length (now kept)) ⌝ }
     ensures { λ r. ⌜ ((T : Tables) → r ≡ ltb (next 32 (ofWords (sized counts T) (now (kept .entry)) .candidate) (counts .atoms)) (32 * length (ofWords (sized counts T) (now (kept .entry)) .candidate))) ⌝ }
 {
-    let n = counts.nodes;
     let a = counts.atoms;
     if a % 32 == 0 {
         return false;
     }
-    let at = 8 + n + (n + 31) / 32 + a + a / 32;
+    let at = kept_laws::missing_at(counts) - 1;
     kept[at] >> (a % 32) != 0
 }
 

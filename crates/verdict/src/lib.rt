@@ -47,10 +47,8 @@ fn first_false(counts: Counts, kept: &[u32]) -> Lookup
     if kept[3] == 0 {
         return Lookup::Empty;
     }
-    let n = counts.nodes;
-    let a = counts.atoms;
-    let at = 8 + n + (n + 31) / 32 + a + (a + 31) / 32 + (a + 31) / 32;
-    let end = at + (counts.roots + 31) / 32;
+    let at = kept_laws::false_roots_at(counts);
+    let end = kept_laws::groups_at(counts);
     lowest(&kept[at..end], counts.roots)
 }
 
@@ -61,11 +59,9 @@ fn first_missing(counts: Counts, kept: &[u32]) -> Lookup
     if kept[2] == 0 {
         return Lookup::Empty;
     }
-    let n = counts.nodes;
-    let a = counts.atoms;
-    let at = 8 + n + (n + 31) / 32 + a + (a + 31) / 32;
-    let end = at + (a + 31) / 32;
-    lowest(&kept[at..end], a)
+    let at = kept_laws::missing_at(counts);
+    let end = kept_laws::false_roots_at(counts);
+    lowest(&kept[at..end], counts.atoms)
 }
 
 // By the false roots in root order, then the missing atoms.

@@ -7,26 +7,15 @@ use Rattle.node_truth.proofs.present.Statement.{statement}
 use Rattle.node_truth.proofs.present.Tie as tie
 use Rattle.node_truth.proofs.present.Reads as reads
 use Rattle.node_truth.proofs.present.Lts as lts
+use Rattle.kept_laws.proofs.candidate_at.Reads as candidate-at-reads
+
+-- src/lib.rt:42:14
+candidate-at-requires : tie.Need-candidate-at-requires
+candidate-at-requires c κs = search needs
 
 -- src/lib.rt:42:14
 add-at : tie.Need-add-at
 add-at c = search needs
-
--- src/lib.rt:42:24
-add-at-2 : tie.Need-add-at-2
-add-at-2 c = search needs
-
--- src/lib.rt:42:14
-add-at-3 : tie.Need-add-at-3
-add-at-3 c = search needs
-
--- src/lib.rt:42:14
-add-at-4 : tie.Need-add-at-4
-add-at-4 c = search needs
-
--- src/lib.rt:42:14
-add-at-5 : tie.Need-add-at-5
-add-at-5 c = search needs
 
 -- src/lib.rt:43:6
 mul-result : tie.Need-mul-result
@@ -34,7 +23,7 @@ mul-result c = search needs
 
 -- src/lib.rt:43:6
 shared-slice-read-result : tie.Need-shared-slice-read-result
-shared-slice-read-result c = candidate-within (c .before .before .args .counts) _ (c .before .before .pre .2) _ (c .before .before .pre .1)
+shared-slice-read-result c = rw (c .before .candidate-at .ensures) (candidate-within (c .before .before .before .args .counts) _ (c .before .before .before .pre .2) _ (c .before .before .before .pre .1))
 
 -- src/lib.rt:43:19
 cast-result : tie.Need-cast-result
@@ -44,20 +33,17 @@ cast-result c = search needs
 shr-result : tie.Need-shr-result
 shr-result c = search needs
 
--- src/lib.rt:37:1
+-- src/lib.rt:38:1
 returns : tie.Need-returns
 unfolding presentIn bit
-returns c = refl
+returns c = rw (c .before .candidate-at .ensures) refl
 
 pub present-spec : {M : Type 1} → statement M
 present-spec =
     tie.close
     (tie.spec
+    candidate-at-requires
     add-at
-    add-at-2
-    add-at-3
-    add-at-4
-    add-at-5
     mul-result
     shared-slice-read-result
     cast-result

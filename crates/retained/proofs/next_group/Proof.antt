@@ -6,7 +6,7 @@ use Rattle.retained.proofs.next_group.Statement.{statement}
 use Rattle.retained.proofs.next_group.Tie as tie
 use Rattle.retained.proofs.next_group.Reads as reads
 use Rattle.retained.proofs.next_group.Lts as lts
-use Rattle.retained.proofs.groups_at.Reads as groups-at-reads
+use Rattle.kept_laws.proofs.groups_at.Reads as groups-at-reads
 use Rattle.words.proofs.set32.next.Reads as next-reads
 
 -- src/lib.rt:123:9

@@ -5,7 +5,7 @@ use Rattle.retained.proofs.regroup.Statement.{statement}
 use Rattle.retained.proofs.regroup.Tie as tie
 use Rattle.retained.proofs.regroup.Reads as reads
 use Rattle.retained.proofs.regroup.Lts as lts
-use Rattle.retained.proofs.groups_at.Reads as groups-at-reads
+use Rattle.kept_laws.proofs.groups_at.Reads as groups-at-reads
 use Rattle.retained.proofs.mark.Reads as mark-reads
 
 -- src/lib.rt:134:20

@@ -1,3 +1,5 @@
+use native.Mathlib.Omega.{arith}
+use Rattle.kept_laws.specs.Within.{header-within}
 use Rattle.kept_laws.specs.Given.{sized}
 use Rattle.retained.specs.MemberLaws.{root-wrote}
 use borrow.Author.Needs.{needs}
@@ -5,64 +7,24 @@ use Rattle.retained.proofs.root.Statement.{statement}
 use Rattle.retained.proofs.root.Tie as tie
 use Rattle.retained.proofs.root.Reads as reads
 use Rattle.retained.proofs.root.Lts as lts
+use Rattle.kept_laws.proofs.false_roots_at.Reads as false-roots-at-reads
 use Rattle.retained.proofs.turn.Reads as turn-reads
 
--- src/lib.rt:89:14
-add-at : tie.Need-add-at
-add-at c = search needs
+-- src/lib.rt:169:9
+false-roots-at-requires : tie.Need-false-roots-at-requires
+false-roots-at-requires c κs = search needs
 
--- src/lib.rt:89:24
-add-at-2 : tie.Need-add-at-2
-add-at-2 c = search needs
-
--- src/lib.rt:89:14
-add-at-3 : tie.Need-add-at-3
-add-at-3 c = search needs
-
--- src/lib.rt:89:14
-add-at-4 : tie.Need-add-at-4
-add-at-4 c = search needs
-
--- src/lib.rt:89:44
-add-at-5 : tie.Need-add-at-5
-add-at-5 c = search needs
-
--- src/lib.rt:89:14
-add-at-6 : tie.Need-add-at-6
-add-at-6 c = search needs
-
--- src/lib.rt:89:60
-add-at-7 : tie.Need-add-at-7
-add-at-7 c = search needs
-
--- src/lib.rt:89:14
-add-at-8 : tie.Need-add-at-8
-add-at-8 c = search needs
-
--- src/lib.rt:90:5
+-- src/lib.rt:170:5
 turn-requires : tie.Need-turn-requires
-turn-requires c κs = search needs
+turn-requires c κs = rw (c .before .false-roots-at .ensures) (omega (arith, c .before .before .before .pre .1, c .before .before .before .pre .2), header-within (c .before .before .before .args .counts) _ (c .before .before .before .pre .2) 3 (omega arith), omega (arith, c .before .before .before .pre .0 .roots))
 
--- src/lib.rt:83:1
+-- src/lib.rt:165:1
 same-length : tie.Need-same-length
 same-length c = search needs
 
--- src/lib.rt:83:1
+-- src/lib.rt:165:1
 returns : tie.Need-returns
-returns c = λ T. root-wrote (sized (c .before .before .before .before .before .args .counts) T) (c .before .before .before .before .before .args .kept .now) (c .before .before .before .before .before .pre .2) (c .before .before .before .before .before .args .p) (c .before .before .before .before .before .args .holds) (c .before .before .before .before .before .pre .1) _ _ (c .before .before .turn .ensures)
+returns c = λ T. root-wrote (sized (c .before .before .before .before .before .before .args .counts) T) (c .before .before .before .before .before .before .args .kept .now) (c .before .before .before .before .before .before .pre .2) (c .before .before .before .before .before .before .args .p) (c .before .before .before .before .before .before .args .holds) (c .before .before .before .before .before .before .pre .1) _ _ (rw (c .before .before .before .before .false-roots-at .ensures) at (c .before .before .turn .ensures))
 
 pub root-spec : {M : Type 1} → statement M
-root-spec =
-    tie.close
-    (tie.spec
-    add-at
-    add-at-2
-    add-at-3
-    add-at-4
-    add-at-5
-    add-at-6
-    add-at-7
-    add-at-8
-    turn-requires
-    same-length
-    returns)
+root-spec = tie.close (tie.spec false-roots-at-requires turn-requires same-length returns)

@@ -7,7 +7,7 @@ use Rattle.retained.proofs.wait.Statement.{statement}
 use Rattle.retained.proofs.wait.Tie as tie
 use Rattle.retained.proofs.wait.Reads as reads
 use Rattle.retained.proofs.wait.Lts as lts
-use Rattle.retained.proofs.groups_at.Reads as groups-at-reads
+use Rattle.kept_laws.proofs.groups_at.Reads as groups-at-reads
 use Rattle.retained.proofs.include.Reads as include-reads
 use Rattle.retained.proofs.mark.Reads as mark-reads
 
