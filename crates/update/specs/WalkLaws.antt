@@ -30,7 +30,7 @@ use Rattle.kept.specs.Check.{Result, concluded, keptResult}
 use Rattle.kept.specs.Layout.{ofWords, written, candidateStart, used}
 use Rattle.kept.specs.LayoutLaws.{Fits, fits-of}
 use Rattle.kept_laws.specs.FitsLaws.{step-fits, start-fits}
-use Rattle.kept_laws.specs.Given.{candidateAt, usedBy}
+use Rattle.kept_laws.specs.Given.{candidateAt, missingAt}
 use Rattle.kept_laws.specs.WalkEnds.{step-next}
 use Rattle.kept_laws.specs.Turns.{resumed, resumed-none, walk-more, walk-done, walk-stop}
 use Rattle.kept_laws.specs.Written.{written-same, of-written, length-written, written-again, part-candidate, get-candidate, get-first}
@@ -129,9 +129,9 @@ module _ (T : Tables) (g : ℕ) (ws : List ℕ) (long : used T ≤ length ws) wh
 
 -- ---- before it
 
--- the last word of the kept candidate is within the words
-pub last-within : (t : Counts) (long : ℕ) → usedBy t ≤ long → (t .atoms % 32 ≡ 0 → ⊥) → candidateAt t + t .atoms / 32 < long
-last-within t long h ne = omega (arith, ne)
+-- the last word of the kept candidate stands before the missing atoms
+pub last-word : (t : Counts) → (t .atoms % 32 ≡ 0 → ⊥) → missingAt t - 1 ≡ candidateAt t + t .atoms / 32
+last-word t ne = omega (arith, ne)
 
 module _ (T : Tables) (J : Interpretation) (ws : List ℕ) (long : used T ≤ length ws) where
   abbrev e : Evaluation

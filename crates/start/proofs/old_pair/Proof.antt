@@ -9,30 +9,19 @@ use Rattle.start.proofs.old_pair.Tie as tie
 use Rattle.start.proofs.old_pair.Reads as reads
 use Rattle.start.proofs.old_pair.Lts as lts
 use Rattle.difference.proofs.pair.Reads as pair-reads
+use Rattle.kept_laws.proofs.candidate_at.Reads as candidate-at-reads
 
 -- src/lib.rt:69:14
-add-at : tie.Need-add-at
-add-at c = search needs
+candidate-at-requires : tie.Need-candidate-at-requires
+candidate-at-requires c κs = search needs
 
--- src/lib.rt:69:23
-add-at-2 : tie.Need-add-at-2
-add-at-2 c = search needs
-
--- src/lib.rt:69:14
-add-at-3 : tie.Need-add-at-3
-add-at-3 c = search needs
-
--- src/lib.rt:69:14
-add-at-4 : tie.Need-add-at-4
-add-at-4 c = search needs
-
--- src/lib.rt:69:53
+-- src/lib.rt:69:48
 mul-at : tie.Need-mul-at
 mul-at c = search needs
 
 -- src/lib.rt:69:14
-add-at-5 : tie.Need-add-at-5
-add-at-5 c = search needs
+add-at : tie.Need-add-at
+add-at c = search needs
 
 -- src/lib.rt:70:8
 mul-if1 : tie.Need-mul-if1
@@ -44,11 +33,11 @@ add-if1 c = search needs
 
 -- src/lib.rt:71:9
 pair-requires : tie.Need-pair-requires
-pair-requires c κs = omega (arith, c .if1 .taken, c .before .before .before .before .pre .1, c .before .before .before .before .pre .2)
+pair-requires c κs = rw (c .before .before .candidate-at .ensures) (omega (arith, c .if1 .taken, c .before .before .before .before .pre .1, c .before .before .before .before .pre .2))
 
 -- src/lib.rt:71:9
 returns : tie.Need-returns
-returns c = λ T. pair-whole (sized (c .before .before .before .before .before .args .counts) T) (c .before .before .before .before .before .args .kept .now) (c .before .before .before .before .before .args .j) (c .before .before .before .before .before .pre .1) (omega (arith, c .before .before .before .before .shared-slice-known .given (candidateAt (c .before .before .before .before .before .args .counts) + 2 * c .before .before .before .before .before .args .j))) _ (omega (arith, c .before .if1 .taken)) (c .pair .ensures)
+returns c = let g = c .before .before .before .before .before .args in λ T. pair-whole (sized (g .counts) T) (g .kept .now) (g .j) (c .before .before .before .before .before .pre .1) (omega (arith, c .before .before .before .before .shared-slice-known .given (candidateAt (g .counts) + 2 * g .j))) _ (omega (arith, c .before .if1 .taken)) (rw (c .before .before .before .candidate-at .ensures) at (c .pair .ensures))
 
 -- src/lib.rt:73:5
 mul-result : tie.Need-mul-result
@@ -56,26 +45,23 @@ mul-result c = search needs
 
 -- src/lib.rt:73:5
 shared-slice-read-result : tie.Need-shared-slice-read-result
-shared-slice-read-result c = omega (arith, c .before .before .before .before .before .pre .1, c .before .before .before .before .before .pre .2)
+shared-slice-read-result c = rw (c .before .before .before .candidate-at .ensures) (omega (arith, c .before .before .before .before .before .pre .1, c .before .before .before .before .before .pre .2))
 
 -- src/lib.rt:73:5
 cast-result : tie.Need-cast-result
-cast-result c = omega (arith, c .shared-slice-known2 .given (candidateAt (c .before .before .before .before .before .args .counts) + 2 * c .before .before .before .before .before .args .j))
+cast-result c = let g = c .before .before .before .before .before .args in rw (c .before .before .before .candidate-at .ensures) (omega (arith, c .shared-slice-known2 .given (candidateAt (g .counts) + 2 * g .j)))
 
--- src/lib.rt:64:1
+-- src/lib.rt:65:1
 returns-2 : tie.Need-returns-2
-returns-2 c = λ T. pair-last (sized (c .before .before .before .before .before .args .counts) T) (c .before .before .before .before .before .args .kept .now) (c .before .before .before .before .before .args .j) (c .before .before .before .before .before .pre .1) (omega (arith, c .shared-slice-known2 .given (candidateAt (c .before .before .before .before .before .args .counts) + 2 * c .before .before .before .before .before .args .j))) _ (omega (arith, c .before .if1 .left, c .before .before .before .before .before .pre .2)) refl
+returns-2 c = let g = c .before .before .before .before .before .args in λ T. pair-last (sized (g .counts) T) (g .kept .now) (g .j) (c .before .before .before .before .before .pre .1) (omega (arith, c .shared-slice-known2 .given (candidateAt (g .counts) + 2 * g .j))) _ (omega (arith, c .before .if1 .left, c .before .before .before .before .before .pre .2)) (rw (c .before .before .before .candidate-at .ensures) refl)
 
 pub old-pair-spec : {M : Type 1} → statement M
 old-pair-spec =
     tie.close
     (tie.spec
-    add-at
-    add-at-2
-    add-at-3
-    add-at-4
+    candidate-at-requires
     mul-at
-    add-at-5
+    add-at
     mul-if1
     add-if1
     pair-requires
