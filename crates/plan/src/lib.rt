@@ -58,7 +58,7 @@ fn short_buffer(counts: Counts, l: Lengths) -> Admission
     if l.ranks < counts.atoms {
         return Admission::Refused(Refusal::ShortBuffer(5));
     }
-    if l.readers < 2 + counts.atoms + 4 * counts.nodes + counts.operands + 2 * counts.roots {
+    if l.readers < readers::table_words(counts) {
         return Admission::Refused(Refusal::ShortBuffer(6));
     }
     if l.work

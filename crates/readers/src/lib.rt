@@ -322,6 +322,14 @@ pub fn build(
     place(counts, nodes, operands, roots, producers, p, table);
 }
 
+// How many words the table of these counts has.
+pub fn table_words(counts: Counts) -> usize
+    requires { ⌜ Limited counts ⌝ }
+    ensures { λ r. ⌜ r ≡ readerWords counts ⌝ }
+{
+    2 + counts.atoms + 4 * counts.nodes + counts.operands + 2 * counts.roots
+}
+
 // Whether the two starts of list s of any table are in order and within its first `listed` words.
 pub fn in_order(table: &[u64], listed: usize, s: usize) -> bool
     requires { ⌜ s + 1 < length (now table) ⌝ }

@@ -50,8 +50,8 @@ fn turn_atom(counts: Counts, readers: &[u64], kept: &mut [u32], a: usize, x: boo
     if !retained::presence(counts, kept, a, x) {
         return false;
     }
-    let size = 2 + counts.atoms + 4 * counts.nodes + counts.operands + 2 * counts.roots;
-    if !readers::in_order(readers, size, counts.nodes + 1 + a) {
+    let listed = readers::table_words(counts);
+    if !readers::in_order(readers, listed, counts.nodes + 1 + a) {
         return false;
     }
     enter_all(

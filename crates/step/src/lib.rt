@@ -113,8 +113,8 @@ fn settle(
     if node_truth::holds(kept, k) == holds {
         return true;
     }
-    let size = 2 + counts.atoms + 4 * counts.nodes + counts.operands + 2 * counts.roots;
-    if !readers::in_order(readers, size, k) {
+    let listed = readers::table_words(counts);
+    if !readers::in_order(readers, listed, k) {
         return false;
     }
     let list = readers::readers_of(readers, k);

@@ -43,7 +43,7 @@ fn short_buffer(counts: Counts, l: Lengths) -> Admission
     if l.producers < 4 * counts.roots {
         return Admission::Refused(Refusal::ShortBuffer(4));
     }
-    if l.readers < 2 + counts.atoms + 4 * counts.nodes + counts.operands + 2 * counts.roots {
+    if l.readers < readers::table_words(counts) {
         return Admission::Refused(Refusal::ShortBuffer(6));
     }
     if l.kept < 16 + 2 * counts.nodes + 3 * counts.atoms + counts.roots {

@@ -11,80 +11,61 @@ use Rattle.start.proofs.turn_atom.Reads as reads
 use Rattle.start.proofs.turn_atom.Lts as lts
 use Rattle.readers.proofs.atom_nodes_of.Reads as atom-nodes-of-reads
 use Rattle.readers.proofs.in_order.Reads as in-order-reads
+use Rattle.readers.proofs.table_words.Reads as table-words-reads
 use Rattle.retained.proofs.presence.Reads as presence-reads
 use Rattle.start.proofs.enter_all.Reads as enter-all-reads
 
--- src/lib.rt:51:9
+-- src/lib.rt:50:9
 presence-requires : tie.Need-presence-requires
 presence-requires c κs = search needs
 
--- src/lib.rt:52:9
+-- src/lib.rt:51:9
 same-length : tie.Need-same-length
 same-length c = search needs
 
--- src/lib.rt:52:9
+-- src/lib.rt:51:9
 returns : tie.Need-returns
-returns c = λ T J same. turn-none (listed (c .before .before .before .before .before .before .before .args .counts) (c .before .before .before .before .before .before .before .args .readers .now) T) (c .before .before .before .before .before .before .before .args .a) J (c .before .before .before .before .before .before .before .args .x) same (c .before .before .before .before .before .before .before .args .kept .now) (c .before .before .before .before .before .before .before .pre .2) _ _ (c .before .before .before .presence .ensures (listed (c .before .before .before .before .before .before .before .args .counts) (c .before .before .before .before .before .before .before .args .readers .now) T)) (not-true _ (c .if1 .taken))
+returns c = let g = c .before .before .before .before .before .before .before .args in λ T J same. turn-none (listed (g .counts) (g .readers .now) T) (g .a) J (g .x) same (g .kept .now) (c .before .before .before .before .before .before .before .pre .2) _ _ (c .before .before .before .presence .ensures (listed (g .counts) (g .readers .now) T)) (not-true _ (c .if1 .taken))
 
--- src/lib.rt:54:16
-add-size : tie.Need-add-size
-add-size c = search needs
+-- src/lib.rt:53:9
+table-words-requires : tie.Need-table-words-requires
+table-words-requires c κs = search needs
 
--- src/lib.rt:54:35
-mul-size : tie.Need-mul-size
-mul-size c = search needs
-
--- src/lib.rt:54:16
-add-size-2 : tie.Need-add-size-2
-add-size-2 c = search needs
-
--- src/lib.rt:54:16
-add-size-3 : tie.Need-add-size-3
-add-size-3 c = search needs
-
--- src/lib.rt:54:72
-mul-size-2 : tie.Need-mul-size-2
-mul-size-2 c = search needs
-
--- src/lib.rt:54:16
-add-size-4 : tie.Need-add-size-4
-add-size-4 c = search needs
-
--- src/lib.rt:55:42
+-- src/lib.rt:54:44
 add-in-order : tie.Need-add-in-order
 add-in-order c = search needs
 
--- src/lib.rt:55:42
+-- src/lib.rt:54:44
 add-in-order-2 : tie.Need-add-in-order-2
 add-in-order-2 c = search needs
 
--- src/lib.rt:55:9
+-- src/lib.rt:54:9
 in-order-requires : tie.Need-in-order-requires
-in-order-requires c κs = search needs
+in-order-requires c κs = omega (arith, c .before .before .before .before .before .before .before .before .before .pre .1, c .before .before .before .before .before .before .before .before .before .pre .3)
 
--- src/lib.rt:56:9
+-- src/lib.rt:55:9
 same-length-2 : tie.Need-same-length-2
 same-length-2 c = search needs
 
--- src/lib.rt:56:9
+-- src/lib.rt:55:9
 returns-2 : tie.Need-returns-2
-returns-2 c = λ T J same. turn-disordered (listed (c .before .before .before .before .before .before .before .before .before .before .before .before .before .before .args .counts) (c .before .before .before .before .before .before .before .before .before .before .before .before .before .before .args .readers .now) T) (c .before .before .before .before .before .before .before .before .before .before .before .before .before .before .args .a) J (c .before .before .before .before .before .before .before .before .before .before .before .before .before .before .args .x) same (c .before .before .before .before .before .before .before .before .before .before .before .before .before .before .args .kept .now) (c .before .before .before .before .before .before .before .before .before .before .before .before .before .before .pre .2) _ _ (c .before .before .before .before .before .before .before .before .before .before .presence .ensures (listed (c .before .before .before .before .before .before .before .before .before .before .before .before .before .before .args .counts) (c .before .before .before .before .before .before .before .before .before .before .before .before .before .before .args .readers .now) T)) (not-false _ (c .before .before .before .before .before .before .before .if1 .left)) (sym (c .before .in-order .ensures) ∙ not-true _ (c .if2 .taken))
+returns-2 c = let g = c .before .before .before .before .before .before .before .before .before .before .before .args in λ T J same. turn-disordered (listed (g .counts) (g .readers .now) T) (g .a) J (g .x) same (g .kept .now) (c .before .before .before .before .before .before .before .before .before .before .before .pre .2) _ _ (c .before .before .before .before .before .before .before .presence .ensures (listed (g .counts) (g .readers .now) T)) (not-false _ (c .before .before .before .before .if1 .left)) (sym (rw (c .before .before .before .table-words .ensures) at (c .before .in-order .ensures)) ∙ not-true _ (c .if2 .taken))
 
--- src/lib.rt:60:9
+-- src/lib.rt:59:9
 atom-nodes-of-requires : tie.Need-atom-nodes-of-requires
-atom-nodes-of-requires c κs = (omega (arith, c .before .before .before .before .before .before .before .before .before .before .before .before .before .before .pre .1, c .before .before .before .before .before .before .before .before .before .before .before .before .before .before .pre .3), in-order-more _ _ _ _ (c .before .before .before .before .before .before .before .before .before .before .before .before .before .before .pre .1) (in-order-true _ _ _ (sym (c .before .in-order .ensures) ∙ not-false _ (c .if2 .left))))
+atom-nodes-of-requires c κs = (omega (arith, c .before .before .before .before .before .before .before .before .before .before .before .pre .1, c .before .before .before .before .before .before .before .before .before .before .before .pre .3), in-order-more _ _ _ _ (c .before .before .before .before .before .before .before .before .before .before .before .pre .1) (in-order-true _ _ _ (sym (rw (c .before .before .before .table-words .ensures) at (c .before .in-order .ensures)) ∙ not-false _ (c .if2 .left))))
 
--- src/lib.rt:58:5
+-- src/lib.rt:57:5
 enter-all-requires : tie.Need-enter-all-requires
 enter-all-requires c κs = search needs
 
--- src/lib.rt:47:1
+-- src/lib.rt:46:1
 same-length-3 : tie.Need-same-length-3
 same-length-3 c = search needs
 
--- src/lib.rt:47:1
+-- src/lib.rt:46:1
 returns-3 : tie.Need-returns-3
-returns-3 c = λ T J same. turn-done (listed (c .before .before .before .before .before .before .before .before .before .before .before .before .before .before .before .before .before .before .before .args .counts) (c .before .before .before .before .before .before .before .before .before .before .before .before .before .before .before .before .before .before .before .args .readers .now) T) (c .before .before .before .before .before .before .before .before .before .before .before .before .before .before .before .before .before .before .before .args .a) J (c .before .before .before .before .before .before .before .before .before .before .before .before .before .before .before .before .before .before .before .args .x) same (c .before .before .before .before .before .before .before .before .before .before .before .before .before .before .before .before .before .before .before .args .kept .now) (c .before .before .before .before .before .before .before .before .before .before .before .before .before .before .before .before .before .before .before .pre .2) _ _ (c .before .before .before .before .before .before .before .before .before .before .before .before .before .before .before .presence .ensures (listed (c .before .before .before .before .before .before .before .before .before .before .before .before .before .before .before .before .before .before .before .args .counts) (c .before .before .before .before .before .before .before .before .before .before .before .before .before .before .before .before .before .before .before .args .readers .now) T)) (not-false _ (c .before .before .before .before .before .before .before .before .before .before .before .before .if1 .left)) (sym (c .before .before .before .before .before .before .in-order .ensures) ∙ not-false _ (c .before .before .before .before .before .if2 .left)) _ (c .before .before .before .before .atom-nodes-of .ensures) _ _ (c .before .before .enter-all .ensures (listed (c .before .before .before .before .before .before .before .before .before .before .before .before .before .before .before .before .before .before .before .args .counts) (c .before .before .before .before .before .before .before .before .before .before .before .before .before .before .before .before .before .before .before .args .readers .now) T))
+returns-3 c = let g = c .before .before .before .before .before .before .before .before .before .before .before .before .before .before .before .before .args in λ T J same. turn-done (listed (g .counts) (g .readers .now) T) (g .a) J (g .x) same (g .kept .now) (c .before .before .before .before .before .before .before .before .before .before .before .before .before .before .before .before .pre .2) _ _ (c .before .before .before .before .before .before .before .before .before .before .before .before .presence .ensures (listed (g .counts) (g .readers .now) T)) (not-false _ (c .before .before .before .before .before .before .before .before .before .if1 .left)) (sym (rw (c .before .before .before .before .before .before .before .before .table-words .ensures) at (c .before .before .before .before .before .before .in-order .ensures)) ∙ not-false _ (c .before .before .before .before .before .if2 .left)) _ (c .before .before .before .before .atom-nodes-of .ensures) _ _ (c .before .before .enter-all .ensures (listed (g .counts) (g .readers .now) T))
 
 pub turn-atom-spec : {M : Type 1} → statement M
 turn-atom-spec =
@@ -93,12 +74,7 @@ turn-atom-spec =
     presence-requires
     same-length
     returns
-    add-size
-    mul-size
-    add-size-2
-    add-size-3
-    mul-size-2
-    add-size-4
+    table-words-requires
     add-in-order
     add-in-order-2
     in-order-requires
