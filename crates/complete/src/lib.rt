@@ -107,6 +107,13 @@ fn lay_truth(counts: Counts, nodes: &[u32], operands: &[u32], kept: &mut [u32], 
     requires { ⌜ Limited counts × (k < counts .nodes) × (3 * counts .nodes ≤ length (now nodes)) × (counts .operands ≤ length (now operands)) × (usedBy counts ≤ length (now kept)) ⌝ }
     ensures { λ r. ⌜ ((T : Tables) → Wrote (viewed counts (now (nodes .entry)) (now (operands .entry)) T) (now (kept .entry)) (truthSet (viewed counts (now (nodes .entry)) (now (operands .entry)) T) k (ofWords (viewed counts (now (nodes .entry)) (now (operands .entry)) T) (now (kept .entry)))) r (now (kept .exit))) ⌝ }
 {
+    // the kind that is met most, by one comparison
+    if nodes[3 * k] == 2 {
+        let left = words::word(nodes, 3 * k + 1);
+        let right = words::word(nodes, 3 * k + 2);
+        let seen = node_truth::implies_truth(kept, k, left, right);
+        return lay(kept, k, seen);
+    }
     match theory::view(nodes, k) {
         Node::Atom(a) => {
             let seen = node_truth::atom_truth(counts, kept, a);
