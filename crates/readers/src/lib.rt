@@ -1,6 +1,8 @@
 // The reader lists: who reads each node's truth. A port of tight/readers.rs.
 ghost use mathlib.Core.Path.{_≡_};
 ghost use Prim.Native.Nat.{ℕ, _+_, _*_, _^_, _<_, _≤_};
+ghost use mathlib.Core.Bool.{_&&_};
+ghost use lib.Dec.{leb};
 ghost use lib.ListN.{length, getD};
 ghost use Rattle.readers.specs.Reader.{nodeReader, producerReader, rootReader, readingOf};
 ghost use Rattle.readers.specs.declared.Reading.the-variants.{Producer, Root};
@@ -330,13 +332,10 @@ pub fn table_words(counts: Counts) -> usize
     2 + counts.atoms + 4 * counts.nodes + counts.operands + 2 * counts.roots
 }
 
-// Whether the two starts of list s of any table are in order and within its first `listed` words.
-pub fn in_order(table: &[u64], listed: usize, s: usize) -> bool
-    requires { ⌜ s + 1 < length (now table) ⌝ }
-    ensures { λ r. ⌜ r ≡ inOrder (now (table .entry)) listed s ⌝ }
+// Whether the starts of a list are in order and within the first `listed` words.
+pub fn ordered(start: usize, end: usize, listed: usize) -> bool
+    ensures { λ r. ⌜ r ≡ (leb start end && leb end listed) ⌝ }
 {
-    let start = words::word64(table, s);
-    let end = words::word64(table, s + 1);
     if start > end {
         return false;
     }
@@ -344,6 +343,14 @@ pub fn in_order(table: &[u64], listed: usize, s: usize) -> bool
         return false;
     }
     true
+}
+
+// Whether the two starts of list s of any table are in order and within its first `listed` words.
+pub fn in_order(table: &[u64], listed: usize, s: usize) -> bool
+    requires { ⌜ s + 1 < length (now table) ⌝ }
+    ensures { λ r. ⌜ r ≡ inOrder (now (table .entry)) listed s ⌝ }
+{
+    ordered(words::word64(table, s), words::word64(table, s + 1), listed)
 }
 
 // List s of any table whose two starts are in order.

@@ -1,18 +1,14 @@
 -- A node gets its truth: it is so already, its readers are out of order, or they are told.
 -- Assumes nothing.
 use Prim.Native.Nat.{ℕ, _<_, _≤_, _+_}
-use native.Mathlib.Omega.{arith}
 use mathlib.Core.Path.{_≡_, refl, ap, sym, _∙_}
-use mathlib.Core.Bool.{Bool, true, false, not, _&&_, Bool·beq}
+use mathlib.Core.Bool.{Bool, true, false, not, Bool·beq}
 use mathlib.Core.List.{List}
 use mathlib.Core.Option.{some, none}
-use lib.Dec.{leb}
-use lib.ListN.{length, getD, set}
-use borrow.Author.Tests.{leb-true}
-use Rattle.base.specs.Tests.{both-left, both-right}
+use lib.ListN.{length, set}
 use Rattle.words.specs.Changed.{unlike}
 use Rattle.readers.specs.Laid as laid
-use Rattle.readers.specs.Laid.{InOrder, inOrder}
+use Rattle.readers.specs.Laid.{inOrder}
 use Rattle.readers.specs.ReaderTable.{readerWords}
 use Rattle.kept.specs.Tables.{Tables, nodeCount, between, listAt}
 use Rattle.kept.specs.Evaluation.{Evaluation, truthAt, truthWord}
@@ -34,15 +30,6 @@ unlike-not false true = refl
 unlike-not false false = refl
 
 -- ---- list s of the reader table
-
-pub in-order : (words : List ℕ) (listed s : ℕ) (b : Bool) → b ≡ inOrder words listed s → b ≡ true → listed ≤ length words → InOrder words (length words) s
-unfolding inOrder
-in-order words listed s b p q l =
-    let both : leb (getD words s 0) (getD words (s + 1) 0) && leb (getD words (s + 1) 0) listed ≡ true = sym p ∙ q in
-    record {
-      rising = leb-true (getD words s 0) (getD words (s + 1) 0) (both-left (leb (getD words s 0) (getD words (s + 1) 0)) (leb (getD words (s + 1) 0) listed) both);
-      within = omega (arith, leb-true (getD words (s + 1) 0) listed (both-right (leb (getD words s 0) (getD words (s + 1) 0)) (leb (getD words (s + 1) 0) listed) both));
-    }
 
 module _ (T : Tables) (s : ℕ) (b : Bool) (is : b ≡ inOrder (T .readers) (readerWords (T .counts)) s) where
   list-there : b ≡ true → listAt T s ≡ some (laid.listAt (T .readers) s)

@@ -97,7 +97,7 @@ fn store(kept: &mut [u32], k: usize, holds: bool)
     }
 }
 
-// Node k, off the worklist, gets its truth.
+// Node k, off the worklist, gets its truth; `from` and `to` are the starts of its list of readers and of the next one.
 fn settle(
     counts: Counts,
     made: usize,
@@ -105,21 +105,21 @@ fn settle(
     readers: &[u64],
     kept: &mut [u32],
     k: usize,
+    from: usize,
+    to: usize,
     holds: bool,
 ) -> bool
-    requires { ⌜ Limited counts × (made ≤ counts .roots) × (4 * counts .roots ≤ length (now producers)) × (readerWords counts ≤ length (now readers)) × (usedBy counts ≤ length (now kept)) × (k < counts .nodes) ⌝ }
+    requires { ⌜ Limited counts × (made ≤ counts .roots) × (4 * counts .roots ≤ length (now producers)) × (readerWords counts ≤ length (now readers)) × (usedBy counts ≤ length (now kept)) × (k < counts .nodes) × (from ≡ getD (now readers) k 0) × (to ≡ getD (now readers) (k + 1) 0) ⌝ }
     ensures { λ r. ⌜ ((T : Tables) → Wrote (told counts made (now (producers .entry)) (now (readers .entry)) T) (now (kept .entry)) (settledTo (told counts made (now (producers .entry)) (now (readers .entry)) T) k holds (ofWords (told counts made (now (producers .entry)) (now (readers .entry)) T) (now (kept .entry)))) r (now (kept .exit))) ⌝ }
 {
     if node_truth::holds(kept, k) == holds {
         return true;
     }
-    let listed = readers::table_words(counts);
-    if !readers::in_order(readers, listed, k) {
+    if !readers::ordered(from, to, readers::table_words(counts)) {
         return false;
     }
-    let list = readers::readers_of(readers, k);
     store(kept, k, holds);
-    update_readers(counts, made, producers, list, kept, k, holds)
+    update_readers(counts, made, producers, &readers[from..to], kept, k, holds)
 }
 
 // Node k, the first of the worklist, leaves it and gets its truth.
@@ -130,15 +130,17 @@ fn take(
     readers: &[u64],
     kept: &mut [u32],
     k: usize,
+    from: usize,
+    to: usize,
     holds: bool,
 ) -> Taking
-    requires { ⌜ Limited counts × (made ≤ counts .roots) × (4 * counts .roots ≤ length (now producers)) × (readerWords counts ≤ length (now readers)) × (usedBy counts ≤ length (now kept)) × (k < counts .nodes) × (getD (now kept) 5 0 ≡ k) ⌝ }
+    requires { ⌜ Limited counts × (made ≤ counts .roots) × (4 * counts .roots ≤ length (now producers)) × (readerWords counts ≤ length (now readers)) × (usedBy counts ≤ length (now kept)) × (k < counts .nodes) × (getD (now kept) 5 0 ≡ k) × (from ≡ getD (now readers) k 0) × (to ≡ getD (now readers) (k + 1) 0) ⌝ }
     ensures { λ r. ⌜ ((T : Tables) → Steps (told counts made (now (producers .entry)) (now (readers .entry)) T) (now (kept .entry)) (takenFrom (told counts made (now (producers .entry)) (now (readers .entry)) T) k holds (ofWords (told counts made (now (producers .entry)) (now (readers .entry)) T) (now (kept .entry)))) r (now (kept .exit))) ⌝ }
 {
     if !retained::dequeue(counts, kept, k) {
         return Taking::Fault(0);
     }
-    if settle(counts, made, producers, readers, kept, k, holds) {
+    if settle(counts, made, producers, readers, kept, k, from, to, holds) {
         Taking::Took(k)
     } else {
         Taking::Fault(k)
@@ -175,10 +177,13 @@ pub fn step(
         }
         return Taking::Fault(0);
     }
+    // read before the truth, so that the list is on its way when that is seen to have changed
+    let from = words::word64(readers, k);
+    let to = words::word64(readers, k + 1);
     let seen = node_truth::node_truth(counts, nodes, operands, kept, k);
     if let Seen::Stray = seen {
         return Taking::Fault(k);
     }
     let holds = is_true(seen);
-    take(counts, made, producers, readers, kept, k, holds)
+    take(counts, made, producers, readers, kept, k, from, to, holds)
 }

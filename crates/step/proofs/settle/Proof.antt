@@ -1,55 +1,68 @@
 use native.Mathlib.Omega.{arith}
+use mathlib.Core.Path.{refl, sym, _∙_}
 use Rattle.readers.specs.ReaderTable.{readerWords}
+use Rattle.readers.specs.LaidLaws.{order-read, list-read, in-order-true}
 use Rattle.kept_laws.specs.Given.{told}
 use Rattle.kept_laws.specs.OptionLaws.{not-true, not-false}
-use Rattle.step.specs.SettleLaws.{in-order, settle-same, settle-astray, settle-told}
+use Rattle.step.specs.SettleLaws.{settle-same, settle-astray, settle-told}
 use borrow.Author.Needs.{needs}
 use Rattle.step.proofs.settle.Statement.{statement}
 use Rattle.step.proofs.settle.Tie as tie
 use Rattle.step.proofs.settle.Reads as reads
 use Rattle.step.proofs.settle.Lts as lts
 use Rattle.node_truth.proofs.holds.Reads as holds-reads
-use Rattle.readers.proofs.in_order.Reads as in-order-reads
-use Rattle.readers.proofs.readers_of.Reads as readers-of-reads
+use Rattle.readers.proofs.ordered.Reads as ordered-reads
 use Rattle.readers.proofs.table_words.Reads as table-words-reads
 use Rattle.step.proofs.store.Reads as store-reads
 use Rattle.step.proofs.update_readers.Reads as update-readers-reads
 
--- src/lib.rt:113:8
+-- src/lib.rt:115:8
 holds-requires : tie.Need-holds-requires
 holds-requires c κs = search needs
 
--- src/lib.rt:114:9
+-- src/lib.rt:116:9
 same-length : tie.Need-same-length
 same-length c = search needs
 
--- src/lib.rt:114:9
+-- src/lib.rt:116:9
 returns : tie.Need-returns
 returns c = let g = c .before .before .before .before .before .before .args in λ T. settle-same (told (g .counts) (g .made) (g .producers .now) (g .readers .now) T) (g .kept .now) (c .before .before .before .before .before .before .pre .4) (g .k) (c .before .before .before .before .before .before .pre .5) (g .holds) _ (c .before .holds .ensures) (c .if1 .taken)
 
--- src/lib.rt:116:9
+-- src/lib.rt:118:36
 table-words-requires : tie.Need-table-words-requires
 table-words-requires c κs = search needs
 
--- src/lib.rt:117:9
-in-order-requires : tie.Need-in-order-requires
-in-order-requires c κs = search needs
-
 -- src/lib.rt:118:9
+ordered-requires : tie.Need-ordered-requires
+ordered-requires c κs = search needs
+
+-- src/lib.rt:119:9
 same-length-2 : tie.Need-same-length-2
 same-length-2 c = search needs
 
--- src/lib.rt:118:9
+-- src/lib.rt:119:9
 returns-2 : tie.Need-returns-2
-returns-2 c = let g = c .before .before .before .before .before .before .before .before .before .args in λ T. settle-astray (told (g .counts) (g .made) (g .producers .now) (g .readers .now) T) (g .kept .now) (c .before .before .before .before .before .before .before .before .before .pre .4) (g .k) (c .before .before .before .before .before .before .before .before .before .pre .5) (g .holds) _ (c .before .before .before .before .holds .ensures) (c .before .before .before .if1 .left) _ (rw (c .before .before .table-words .ensures) at (c .before .in-order .ensures)) (not-true _ (c .if2 .taken))
-
--- src/lib.rt:120:9
-readers-of-requires : tie.Need-readers-of-requires
-readers-of-requires c κs = let g = c .before .before .before .before .before .before .before .before .before .args in (omega (arith, c .before .before .before .before .before .before .before .before .before .pre .3, c .before .before .before .before .before .before .before .before .before .pre .5), in-order (g .readers .now) (readerWords (g .counts)) (g .k) _ (rw (c .before .before .table-words .ensures) at (c .before .in-order .ensures)) (not-false _ (c .if2 .left)) (c .before .before .before .before .before .before .before .before .before .pre .3))
+returns-2 c = let g = c .before .before .before .before .before .before .before .before .before .args in λ T. settle-astray (told (g .counts) (g .made) (g .producers .now) (g .readers .now) T) (g .kept .now) (c .before .before .before .before .before .before .before .before .before .pre .4) (g .k) (c .before .before .before .before .before .before .before .before .before .pre .5) (g .holds) _ (c .before .before .before .before .holds .ensures) (c .before .before .before .if1 .left) _ (order-read (g .readers .now) (g .k) (g .from) (g .to) (c .before .before .before .before .before .before .before .before .before .pre .6) (c .before .before .before .before .before .before .before .before .before .pre .7) _ _ (rw (c .before .before .table-words .ensures) at (c .before .ordered .ensures))) (not-true _ (c .if2 .taken))
 
 -- src/lib.rt:121:5
 store-requires : tie.Need-store-requires
 store-requires c κs = search needs
+
+-- src/lib.rt:122:45
+mul-update-readers : tie.Need-mul-update-readers
+mul-update-readers c = let g = c .before .before .before .before .before .before .before .before .before .before .before .before .before .args in let i = in-order-true (g .readers .now) (readerWords (g .counts)) (g .k) (sym (order-read (g .readers .now) (g .k) (g .from) (g .to) (c .before .before .before .before .before .before .before .before .before .before .before .before .before .pre .6) (c .before .before .before .before .before .before .before .before .before .before .before .before .before .pre .7) _ _ (rw (c .before .before .before .before .before .before .table-words .ensures) at (c .before .before .before .before .before .ordered .ensures))) ∙ not-false _ (c .before .before .before .before .if2 .left)) in omega (arith, i .rising, i .within, c .before .before .before .before .before .before .before .before .before .before .before .before .before .pre .3, c .before .before .before .before .before .before .before .before .before .before .before .before .before .pre .6, c .before .before .before .before .before .before .before .before .before .before .before .before .before .pre .7, c .before .before .before .before .before .before .before .before .before .before .before .before .before .pre .0 .nodes, c .before .before .before .before .before .before .before .before .before .before .before .before .before .pre .0 .atoms, c .before .before .before .before .before .before .before .before .before .before .before .before .before .pre .0 .operands, c .before .before .before .before .before .before .before .before .before .before .before .before .before .pre .0 .roots)
+
+-- src/lib.rt:122:45
+sub-update-readers : tie.Need-sub-update-readers
+sub-update-readers c = let g = c .before .before .before .before .before .before .before .before .before .before .before .before .before .args in let i = in-order-true (g .readers .now) (readerWords (g .counts)) (g .k) (sym (order-read (g .readers .now) (g .k) (g .from) (g .to) (c .before .before .before .before .before .before .before .before .before .before .before .before .before .pre .6) (c .before .before .before .before .before .before .before .before .before .before .before .before .before .pre .7) _ _ (rw (c .before .before .before .before .before .before .table-words .ensures) at (c .before .before .before .before .before .ordered .ensures))) ∙ not-false _ (c .before .before .before .before .if2 .left)) in omega (arith, i .rising, i .within, c .before .before .before .before .before .before .before .before .before .before .before .before .before .pre .3, c .before .before .before .before .before .before .before .before .before .before .before .before .before .pre .6, c .before .before .before .before .before .before .before .before .before .before .before .before .before .pre .7, c .before .before .before .before .before .before .before .before .before .before .before .before .before .pre .0 .nodes, c .before .before .before .before .before .before .before .before .before .before .before .before .before .pre .0 .atoms, c .before .before .before .before .before .before .before .before .before .before .before .before .before .pre .0 .operands, c .before .before .before .before .before .before .before .before .before .before .before .before .before .pre .0 .roots)
+
+-- src/lib.rt:122:45
+part-update-readers-start : tie.Need-part-update-readers-start
+part-update-readers-start c = let g = c .before .before .before .before .before .before .before .before .before .before .before .before .before .args in let i = in-order-true (g .readers .now) (readerWords (g .counts)) (g .k) (sym (order-read (g .readers .now) (g .k) (g .from) (g .to) (c .before .before .before .before .before .before .before .before .before .before .before .before .before .pre .6) (c .before .before .before .before .before .before .before .before .before .before .before .before .before .pre .7) _ _ (rw (c .before .before .before .before .before .before .table-words .ensures) at (c .before .before .before .before .before .ordered .ensures))) ∙ not-false _ (c .before .before .before .before .if2 .left)) in omega (arith, i .rising, i .within, c .before .before .before .before .before .before .before .before .before .before .before .before .before .pre .3, c .before .before .before .before .before .before .before .before .before .before .before .before .before .pre .6, c .before .before .before .before .before .before .before .before .before .before .before .before .before .pre .7, c .before .before .before .before .before .before .before .before .before .before .before .before .before .pre .0 .nodes, c .before .before .before .before .before .before .before .before .before .before .before .before .before .pre .0 .atoms, c .before .before .before .before .before .before .before .before .before .before .before .before .before .pre .0 .operands, c .before .before .before .before .before .before .before .before .before .before .before .before .before .pre .0 .roots)
+
+-- src/lib.rt:122:45
+part-update-readers-end : tie.Need-part-update-readers-end
+part-update-readers-end c = let g = c .before .before .before .before .before .before .before .before .before .before .before .before .before .args in let i = in-order-true (g .readers .now) (readerWords (g .counts)) (g .k) (sym (order-read (g .readers .now) (g .k) (g .from) (g .to) (c .before .before .before .before .before .before .before .before .before .before .before .before .before .pre .6) (c .before .before .before .before .before .before .before .before .before .before .before .before .before .pre .7) _ _ (rw (c .before .before .before .before .before .before .table-words .ensures) at (c .before .before .before .before .before .ordered .ensures))) ∙ not-false _ (c .before .before .before .before .if2 .left)) in omega (arith, i .rising, i .within, c .before .before .before .before .before .before .before .before .before .before .before .before .before .pre .3, c .before .before .before .before .before .before .before .before .before .before .before .before .before .pre .6, c .before .before .before .before .before .before .before .before .before .before .before .before .before .pre .7, c .before .before .before .before .before .before .before .before .before .before .before .before .before .pre .0 .nodes, c .before .before .before .before .before .before .before .before .before .before .before .before .before .pre .0 .atoms, c .before .before .before .before .before .before .before .before .before .before .before .before .before .pre .0 .operands, c .before .before .before .before .before .before .before .before .before .before .before .before .before .pre .0 .roots)
 
 -- src/lib.rt:122:5
 update-readers-requires : tie.Need-update-readers-requires
@@ -61,7 +74,7 @@ same-length-3 c = search needs
 
 -- src/lib.rt:101:1
 returns-3 : tie.Need-returns-3
-returns-3 c = let g = c .before .before .before .before .before .before .before .before .before .before .before .before .before .before .before .before .before .before .args in λ T. settle-told (told (g .counts) (g .made) (g .producers .now) (g .readers .now) T) (g .kept .now) (c .before .before .before .before .before .before .before .before .before .before .before .before .before .before .before .before .before .before .pre .4) (g .k) (c .before .before .before .before .before .before .before .before .before .before .before .before .before .before .before .before .before .before .pre .5) (g .holds) _ (c .before .before .before .before .before .before .before .before .before .before .before .before .before .holds .ensures) (c .before .before .before .before .before .before .before .before .before .before .before .before .if1 .left) _ (rw (c .before .before .before .before .before .before .before .before .before .before .before .table-words .ensures) at (c .before .before .before .before .before .before .before .before .before .before .in-order .ensures)) (not-false _ (c .before .before .before .before .before .before .before .before .before .if2 .left)) _ (c .before .before .before .before .before .before .store .ensures) _ (c .before .before .before .before .before .before .before .before .readers-of .ensures) _ _ (c .before .before .update-readers .ensures (told (g .counts) (g .made) (g .producers .now) (g .readers .now) T))
+returns-3 c = let g = c .before .before .before .before .before .before .before .before .before .before .before .before .before .before .before .before .before .before .args in λ T. settle-told (told (g .counts) (g .made) (g .producers .now) (g .readers .now) T) (g .kept .now) (c .before .before .before .before .before .before .before .before .before .before .before .before .before .before .before .before .before .before .pre .4) (g .k) (c .before .before .before .before .before .before .before .before .before .before .before .before .before .before .before .before .before .before .pre .5) (g .holds) _ (c .before .before .before .before .before .before .before .before .before .before .before .before .before .holds .ensures) (c .before .before .before .before .before .before .before .before .before .before .before .before .if1 .left) _ (order-read (g .readers .now) (g .k) (g .from) (g .to) (c .before .before .before .before .before .before .before .before .before .before .before .before .before .before .before .before .before .before .pre .6) (c .before .before .before .before .before .before .before .before .before .before .before .before .before .before .before .before .before .before .pre .7) _ _ (rw (c .before .before .before .before .before .before .before .before .before .before .before .table-words .ensures) at (c .before .before .before .before .before .before .before .before .before .before .ordered .ensures))) (not-false _ (c .before .before .before .before .before .before .before .before .before .if2 .left)) _ (c .before .before .before .before .before .before .before .store .ensures) _ (list-read (g .readers .now) (g .k) (g .from) (g .to) (c .before .before .before .before .before .before .before .before .before .before .before .before .before .before .before .before .before .before .pre .6) (c .before .before .before .before .before .before .before .before .before .before .before .before .before .before .before .before .before .before .pre .7) _ refl) _ _ (c .before .before .update-readers .ensures (told (g .counts) (g .made) (g .producers .now) (g .readers .now) T))
 
 pub settle-spec : {M : Type 1} → statement M
 settle-spec =
@@ -71,11 +84,14 @@ settle-spec =
     same-length
     returns
     table-words-requires
-    in-order-requires
+    ordered-requires
     same-length-2
     returns-2
-    readers-of-requires
     store-requires
+    mul-update-readers
+    sub-update-readers
+    part-update-readers-start
+    part-update-readers-end
     update-readers-requires
     same-length-3
     returns-3)
