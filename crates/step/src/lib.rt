@@ -97,7 +97,7 @@ fn store(kept: &mut [u32], k: usize, holds: bool)
     }
 }
 
-// Node k, off the worklist, gets its truth; `from` and `to` are the starts of its list of readers and of the next one.
+// Node k, off the worklist, gets its truth; `from` is where its list of readers starts.
 fn settle(
     counts: Counts,
     made: usize,
@@ -106,15 +106,15 @@ fn settle(
     kept: &mut [u32],
     k: usize,
     from: usize,
-    to: usize,
     holds: bool,
 ) -> bool
-    requires { ⌜ Limited counts × (made ≤ counts .roots) × (4 * counts .roots ≤ length (now producers)) × (readerWords counts ≤ length (now readers)) × (usedBy counts ≤ length (now kept)) × (k < counts .nodes) × (from ≡ getD (now readers) k 0) × (to ≡ getD (now readers) (k + 1) 0) ⌝ }
+    requires { ⌜ Limited counts × (made ≤ counts .roots) × (4 * counts .roots ≤ length (now producers)) × (readerWords counts ≤ length (now readers)) × (usedBy counts ≤ length (now kept)) × (k < counts .nodes) × (from ≡ getD (now readers) k 0) ⌝ }
     ensures { λ r. ⌜ ((T : Tables) → Wrote (told counts made (now (producers .entry)) (now (readers .entry)) T) (now (kept .entry)) (settledTo (told counts made (now (producers .entry)) (now (readers .entry)) T) k holds (ofWords (told counts made (now (producers .entry)) (now (readers .entry)) T) (now (kept .entry)))) r (now (kept .exit))) ⌝ }
 {
     if node_truth::holds(kept, k) == holds {
         return true;
     }
+    let to = words::word64(readers, k + 1);
     if !readers::ordered(from, to, readers::table_words(counts)) {
         return false;
     }
@@ -131,16 +131,15 @@ fn take(
     kept: &mut [u32],
     k: usize,
     from: usize,
-    to: usize,
     holds: bool,
 ) -> Taking
-    requires { ⌜ Limited counts × (made ≤ counts .roots) × (4 * counts .roots ≤ length (now producers)) × (readerWords counts ≤ length (now readers)) × (usedBy counts ≤ length (now kept)) × (k < counts .nodes) × (getD (now kept) 5 0 ≡ k) × (from ≡ getD (now readers) k 0) × (to ≡ getD (now readers) (k + 1) 0) ⌝ }
+    requires { ⌜ Limited counts × (made ≤ counts .roots) × (4 * counts .roots ≤ length (now producers)) × (readerWords counts ≤ length (now readers)) × (usedBy counts ≤ length (now kept)) × (k < counts .nodes) × (getD (now kept) 5 0 ≡ k) × (from ≡ getD (now readers) k 0) ⌝ }
     ensures { λ r. ⌜ ((T : Tables) → Steps (told counts made (now (producers .entry)) (now (readers .entry)) T) (now (kept .entry)) (takenFrom (told counts made (now (producers .entry)) (now (readers .entry)) T) k holds (ofWords (told counts made (now (producers .entry)) (now (readers .entry)) T) (now (kept .entry)))) r (now (kept .exit))) ⌝ }
 {
     if !retained::dequeue(counts, kept, k) {
         return Taking::Fault(0);
     }
-    if settle(counts, made, producers, readers, kept, k, from, to, holds) {
+    if settle(counts, made, producers, readers, kept, k, from, holds) {
         Taking::Took(k)
     } else {
         Taking::Fault(k)
@@ -177,13 +176,12 @@ pub fn step(
         }
         return Taking::Fault(0);
     }
-    // read before the truth, so that the list is on its way when that is seen to have changed
+    // where its readers are listed, read before its truth: the truth takes longer to see
     let from = words::word64(readers, k);
-    let to = words::word64(readers, k + 1);
     let seen = node_truth::node_truth(counts, nodes, operands, kept, k);
     if let Seen::Stray = seen {
         return Taking::Fault(k);
     }
     let holds = is_true(seen);
-    take(counts, made, producers, readers, kept, k, from, to, holds)
+    take(counts, made, producers, readers, kept, k, from, holds)
 }

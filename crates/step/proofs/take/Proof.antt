@@ -9,19 +9,19 @@ use Rattle.step.proofs.take.Lts as lts
 use Rattle.retained.proofs.dequeue.Reads as dequeue-reads
 use Rattle.step.proofs.settle.Reads as settle-reads
 
--- src/lib.rt:140:9
+-- src/lib.rt:139:9
 dequeue-requires : tie.Need-dequeue-requires
 dequeue-requires c κs = search needs
 
--- src/lib.rt:141:9
+-- src/lib.rt:140:9
 same-length : tie.Need-same-length
 same-length c = search needs
 
--- src/lib.rt:141:9
+-- src/lib.rt:140:9
 returns : tie.Need-returns
 returns c = let g = c .before .before .before .before .before .before .before .before .args in λ T. take-stuck (told (g .counts) (g .made) (g .producers .now) (g .readers .now) T) (g .k) (g .kept .now) (c .before .before .before .before .before .before .before .before .pre .4) (g .holds) _ _ (c .before .before .before .dequeue .ensures (told (g .counts) (g .made) (g .producers .now) (g .readers .now) T)) (not-true _ (c .if1 .taken))
 
--- src/lib.rt:143:8
+-- src/lib.rt:142:8
 settle-requires : tie.Need-settle-requires
 settle-requires c κs = search needs
 
