@@ -1,35 +1,33 @@
 -- Tables of which a call is lent a part, whatever the rest of T is; and where a kept evaluation's sections stand, by the counts alone.
 -- Assumes nothing.
-use Prim.Native.Nat.{ℕ, _+_}
+use Prim.Native.Nat.{ℕ}
 use mathlib.Core.List.{List, []}
 use Rattle.theory.specs.declared.Counts.{Counts}
-use Rattle.kept.specs.SetOf.{words32}
 use Rattle.kept.specs.Tables.{Tables}
-
-abbrev pub worklistAt : Counts → ℕ
-worklistAt t = 8 + t .nodes
-
-abbrev pub supportAt : Counts → ℕ
-supportAt t = worklistAt t + words32 (t .nodes)
-
-abbrev pub candidateAt : Counts → ℕ
-candidateAt t = supportAt t + t .atoms
-
-abbrev pub missingAt : Counts → ℕ
-missingAt t = candidateAt t + words32 (t .atoms)
-
-abbrev pub falseRootsAt : Counts → ℕ
-falseRootsAt t = missingAt t + words32 (t .atoms)
-
-abbrev pub groupsAt : Counts → ℕ
-groupsAt t = falseRootsAt t + words32 (t .roots)
-
-abbrev pub usedBy : Counts → ℕ
-usedBy t = groupsAt t + words32 (t .nodes)
+use Rattle.kept.specs.Layout.{supportStart, candidateStart, missingStart, falseRootsStart, groupsStart, used}
 
 -- no tables but the counts, where a fact depends on nothing else
 abbrev pub bare : Counts → Tables
 bare t = record { counts = t; plan = 0; made = 0; nodes = []; operands = []; roots = []; producers = []; readers = [] }
+
+-- where the sections begin in the words (kept/specs/Layout), and how many of them are used
+abbrev pub supportAt : Counts → ℕ
+supportAt t = supportStart (bare t)
+
+abbrev pub candidateAt : Counts → ℕ
+candidateAt t = candidateStart (bare t)
+
+abbrev pub missingAt : Counts → ℕ
+missingAt t = missingStart (bare t)
+
+abbrev pub falseRootsAt : Counts → ℕ
+falseRootsAt t = falseRootsStart (bare t)
+
+abbrev pub groupsAt : Counts → ℕ
+groupsAt t = groupsStart (bare t)
+
+abbrev pub usedBy : Counts → ℕ
+usedBy t = used (bare t)
 
 -- the counts
 abbrev pub sized : Counts → Tables → Tables
