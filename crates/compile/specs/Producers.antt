@@ -2,7 +2,7 @@
 -- Assumes nothing.
 use Prim.Native.Nat.{ℕ, _+_}
 use mathlib.Core.List.{List, [], _∷_, _++_}
-use lib.ListN.{getD}
+use lib.ListN.{getD, take}
 use Rattle.theory.specs.Admission.{firstRefusal}
 use Rattle.theory.specs.declared.Counts.{Counts}
 use Rattle.theory.specs.declared.Admission.{Admission}
@@ -33,6 +33,10 @@ madeBy (Refused r) = []
 unfoldable pub producers : List ℕ → List ℕ → List ℕ → List ℕ → List Producer
 producers nodes operands classes [] = []
 producers nodes operands classes (root ∷ roots) = madeBy (produced nodes operands classes root) ++ producers nodes operands classes roots
+
+-- of the roots before position i
+unfoldable pub producersBefore : List ℕ → List ℕ → List ℕ → List ℕ → ℕ → List Producer
+producersBefore nodes operands classes roots i = producers nodes operands classes (take i roots)
 
 -- four words a producer
 unfoldable pub producerWords : List Producer → List ℕ

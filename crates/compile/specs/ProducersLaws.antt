@@ -10,7 +10,7 @@ use lib.Seq.{take-suc}
 use Rattle.base.specs.Front.{front, front-more}
 use Rattle.theory.specs.declared.Admission.{Admission}
 use Rattle.compile.specs.Producer.{produced}
-use Rattle.compile.specs.Producers.{refusedBy, supportedAt, madeBy, producers, producerWords}
+use Rattle.compile.specs.Producers.{refusedBy, supportedAt, madeBy, producers, producersBefore, producerWords}
 use Rattle.compile.specs.declared.Producer.{Producer}
 use Rattle.compile.specs.declared.Produced.{Produced}
 use Rattle.compile.specs.declared.Produced.the-variants.{Nothing, Made, Refused}
@@ -28,10 +28,6 @@ producers-append : (nodes operands classes xs ys : List ℕ) → producers nodes
 unfolding producers
 producers-append nodes operands classes [] ys = refl
 producers-append nodes operands classes (x ∷ xs) ys = rw (producers-append nodes operands classes xs ys, append-assoc)
-
--- of the roots before position i
-unfoldable pub producersBefore : List ℕ → List ℕ → List ℕ → List ℕ → ℕ → List Producer
-producersBefore nodes operands classes roots i = producers nodes operands classes (take i roots)
 
 pub producers-none : (nodes operands classes roots : List ℕ) → producersBefore nodes operands classes roots 0 ≡ []
 unfolding producersBefore producers

@@ -19,8 +19,7 @@ use Rattle.theory.specs.declared.Refusal.the-variants.{UnsupportedBody, Positiv
 use Rattle.compile.specs.ClassWord.{classWords}
 use Rattle.compile.specs.Head.{chosen, eitherOrder, headOf}
 use Rattle.compile.specs.Producer.{fact, rule, producedBy, produced}
-use Rattle.compile.specs.Producers.{refusedBy, supportedAt, rootsSupported, madeBy, producers, producerWords}
-use Rattle.compile.specs.ProducersLaws.{producersBefore}
+use Rattle.compile.specs.Producers.{refusedBy, supportedAt, rootsSupported, madeBy, producers, producersBefore, producerWords}
 use Rattle.graph.specs.Removed as graph
 use Rattle.graph.specs.Removed.{remaining}
 use Rattle.graph.specs.Depth.{peak, depth}

@@ -10,8 +10,7 @@ use Rattle.theory.specs.NodeClass.{joined, nodeClass, nodeClasses}
 use Rattle.compile.specs.ClassWord.{classWords}
 use Rattle.compile.specs.Head.{chosen, eitherOrder, headOf}
 use Rattle.compile.specs.Producer.{fact, rule, producedBy, produced}
-use Rattle.compile.specs.Producers.{madeBy, producers, producerWords}
-use Rattle.compile.specs.ProducersLaws.{producersBefore}
+use Rattle.compile.specs.Producers.{madeBy, producers, producersBefore, producerWords}
 use Rattle.graph.specs.Removed.{remaining, removed}
 use Rattle.graph.specs.Depth.{peak, depth}
 use Rattle.graph.specs.Derive.{ranks, derive}

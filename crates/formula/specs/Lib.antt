@@ -8,4 +8,6 @@ pub mod Head
 pub mod Root
 pub mod Plan
 pub mod Support
+pub mod Producer
+pub mod Named
 pub mod Passes

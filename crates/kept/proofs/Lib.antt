@@ -1,3 +1,4 @@
 pub mod Walk
+pub mod Decides
 pub mod Series
 pub mod Example

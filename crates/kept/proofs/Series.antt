@@ -3,34 +3,25 @@
 use Prim.Native.Nat.{ℕ, _+_}
 use native.Mathlib.Omega.{arith}
 use mathlib.Core.Path.{_≡_, refl, ap, ap₂, sym, _∙_}
-use mathlib.Core.Logic.{_↔_}
 use mathlib.Core.Bool.{cond}
 use mathlib.Core.List.{List, [], _∷_}
 use mathlib.Core.Option.{Option, some, none}
 use lib.ListN.{length, replicate, length-replicate}
 use borrow.Author.Tests.{le-leb, lt-leb}
-use Rattle.formula.specs.Satisfaction.{Interpretation}
 use Rattle.formula.specs.Passes.{Within}
-use Rattle.formula.specs.Root.{theory}
-use Rattle.formula.specs.Stable.{Stable}
-use Rattle.formula.specs.Support.{SupportedModel}
-use Rattle.formula.proofs.Fages.{fages}
-use Rattle.theory.specs.NodeFormula.{rootFormulas}
 use Rattle.theory.specs.declared.Admission.{Admission}
 use Rattle.theory.specs.declared.Admission.the-variants.{Admitted, Refused}
 use Rattle.theory.specs.declared.Refusal.{Refusal}
 use Rattle.theory.specs.declared.Refusal.the-variants.{BadEntry}
-use Rattle.compile.specs.Roots.{rootsOf}
 use Rattle.kept.specs.Tables.{Tables, atomCount, nodeCount}
 use Rattle.kept.specs.Evaluation.{Evaluation, zeroed, fresh}
-use Rattle.kept.specs.Verdict.{Verdict, stable, verdict}
+use Rattle.kept.specs.Verdict.{Verdict, verdict}
 use Rattle.kept.specs.Walk.{keptWalk}
+use Rattle.kept.specs.Changed.{changedAtoms}
 use Rattle.kept.specs.Check as check
-use Rattle.kept.specs.Check.{most, result}
-use Rattle.kept.specs.CheckLaws.{changedAtoms, goneOver, result-zeroed, result-fresh}
+use Rattle.kept.specs.Check.{most, isKept, result}
+use Rattle.kept.specs.CheckLaws.{goneOver, not-kept, is-kept, result-zeroed, result-fresh}
 use Rattle.kept.specs.Consistent.{Consistent}
-use Rattle.kept.specs.Naming.{AllTrue, AllProduced, Right}
-use Rattle.kept.specs.VerdictLaws.{verdict-right}
 use Rattle.kept.specs.Layout.{image, ofWords, used}
 use Rattle.kept.specs.LayoutLaws.{Fits, fits-fresh, fits-zeroed, of-image, written-image, length-image, behind, zero-image}
 use Rattle.kept.specs.Candidate.{Candidate, atomsOf}
@@ -39,23 +30,13 @@ use Rattle.kept.specs.Outcome.{accepted, refused, Outcome, concluded, ou
 use Rattle.kept.specs.TestLaws.{tests-not-17, atoms-within}
 use Rattle.kept.specs.Planned.{PlannedTables}
 use Rattle.kept.specs.PlannedLaws.{consistent}
-use Rattle.kept.specs.StableLaws.{theory-is, to-supported, from-supported}
 use Rattle.kept.specs.Series.{isAccepted, zeroedWords, answerTo, seriesWords, lastAccepted, anew, GoneOver, SeriesCheck, Demand3}
 use Rattle.kept.proofs.Walk.{walk}
+use Rattle.kept.proofs.Decides.{decided}
 
 module _ (T : Tables) (plan : PlannedTables T) where
   good : Consistent T
   good = consistent T plan
-
-  -- the verdict stable is right
-  pub stable-right : (I : Interpretation) → Within (atomCount T) I → (verdict T I ≡ stable) ↔ Stable I (rootFormulas (T .counts) (T .nodes) (T .operands) (T .roots))
-  stable-right I w =
-      let model : SupportedModel I (rootsOf (T .counts) (T .nodes) (T .operands) (T .roots)) ↔ Stable I (theory (rootsOf (T .counts) (T .nodes) (T .operands) (T .roots))) =
-      fages (plan .ranks) I (rootsOf (T .counts) (T .nodes) (T .operands) (T .roots)) (plan .ranked) in
-      let named : Right T I (verdict T I) = verdict-right T I in (
-        λ e. rw (theory-is T plan) at (model .0 (to-supported T plan I w (named .says-stable e .0) (named .says-stable e .1))),
-        λ s. let q : AllTrue T I × AllProduced T I = from-supported T plan I (model .1 (rw (theory-is T plan) s)) in named .stable-said (q .0) (q .1),
-      )
 
   module _ (floor divisor : ℕ) (past : List ℕ) where
     -- ---- the words of a series: zeroed, or those of the last accepted candidate
@@ -125,16 +106,20 @@ module _ (T : Tables) (plan : PlannedTables T) where
     unfolding state
     walk-state d c = ap (keptWalk T (atomsOf T c)) (of-image T (evaluationOf (some d)) (fits (some d)) (replicate 2 0) (behind T past) two)
 
-    gone-over : (o : Option Candidate) (c : Candidate) → GoneOver floor divisor T o (state o) c (gone o c)
+    -- whether the check is a kept one goes by the evaluation that the words hold
+    kept-state : (o : Option Candidate) (c : Candidate) → isKept floor divisor T (atomsOf T c) (ofWords T (state o)) ≡ isKept floor divisor T (atomsOf T c) (evaluationOf o)
+    unfolding state
+    kept-state o c = ap (isKept floor divisor T (atomsOf T c)) (of-image T (evaluationOf o) (fits o) (replicate 2 0) (behind T past) two)
+
+    gone-over : (o : Option Candidate) (c : Candidate) → Within (atomCount T) (atomsOf T c) → GoneOver floor divisor T o (state o) c (gone o c)
     unfolding gone goneOver
-    gone-over none c = refl
-    gone-over (some d) c = (
-      λ h. (
-        walk-state d c ∙ walk T good (atomsOf T d) (atomsOf T c),
-        rw (le-leb (changedAtoms T (atomsOf T d) (atomsOf T c)) (most floor divisor T) h),
-      ),
-      λ h. rw (lt-leb (changedAtoms T (atomsOf T d) (atomsOf T c)) (most floor divisor T) h),
-    )
+    gone-over none c w = (kept-state none c ∙ not-kept T good floor divisor (atomsOf T c), refl)
+    gone-over (some d) c w =
+        let changed : ℕ = changedAtoms T (atomsOf T d) (atomsOf T c) in
+        let kept = kept-state (some d) c ∙ is-kept T good floor divisor (atomsOf T d) (atomsOf T c) w in (
+          λ h. let few = le-leb changed (most floor divisor T) h in (kept ∙ few, walk-state d c ∙ walk T good (atomsOf T d) (atomsOf T c), rw few),
+          λ h. let many = lt-leb changed (most floor divisor T) h in (kept ∙ many, rw many),
+        )
 
     checked : (o : Option Candidate) (c : Candidate) → SeriesCheck floor divisor T (state none) o (state o) c
     unfolding gone
@@ -151,9 +136,8 @@ module _ (T : Tables) (plan : PlannedTables T) where
               as-fresh = λ v n z.
                   let q : verdict T (atomsOf T c) ≡ v = cc in
                   outcome-passed none c e ∙ ap₂ (λ (y : Verdict) (ws : List ℕ). record { answer = accepted y (nodeCount T); words = ws }) q (sym (ap (λ y. y .words) x));
-              right = λ v n z. let q : verdict T (atomsOf T c) ≡ v = cc in rw q at (verdict-right T (atomsOf T c));
-              stable-model = λ v n z. let q : verdict T (atomsOf T c) ≡ v = cc in rw q at (stable-right (atomsOf T c) (atoms-within T c size e));
-              gone-over = λ v n z. let q : gone o c ≡ n = cc in rw q at (gone-over o c);
+              decides = λ v n z. let q : verdict T (atomsOf T c) ≡ v = cc in rw q at (decided T plan (atomsOf T c) (atoms-within T c size e));
+              gone-over = λ v n z. let q : gone o c ≡ n = cc in rw q at (gone-over o c (atoms-within T c size e));
             }
         go (Refused r) e =
             let x = outcome-refused o c r e in
@@ -164,8 +148,7 @@ module _ (T : Tables) (plan : PlannedTables T) where
               let-pass = λ h. let q : tests T c size ≡ Admitted = sym (ap (tests T c) (length-state o)) ∙ h in cc;
               unaltered = λ s z. ap (λ y. y .words) x;
               as-fresh = λ v n z. absurd (no v n z);
-              right = λ v n z. absurd (no v n z);
-              stable-model = λ v n z. absurd (no v n z);
+              decides = λ v n z. absurd (no v n z);
               gone-over = λ v n z. absurd (no v n z);
             }
 

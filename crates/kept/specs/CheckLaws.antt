@@ -24,6 +24,7 @@ use Rattle.kept.specs.CountedSetLaws.{unlike-same}
 use Rattle.kept.specs.Tables.{Tables, atomCount, nodeCount, rootCount, rootAt, headAt, bodyAt}
 use Rattle.kept.specs.Evaluation.{zeroed, held, truth, summary, fresh}
 use Rattle.kept.specs.Verdict.{verdict}
+use Rattle.kept.specs.Changed.{changedAtoms}
 use Rattle.kept.specs.Dirty.{dirty}
 use Rattle.kept.specs.Walk.{keptWalk}
 use Rattle.kept.specs.Check.{accepted, nodeEntry, producerEntry, rootEntry, tablesAdmission, freshResult, keptResult, changes, most, isKept, result}
@@ -31,10 +32,6 @@ use Rattle.kept.specs.Consistent.{Consistent}
 use Rattle.kept.specs.SeenLaws.{seen-sound}
 use Rattle.kept.specs.StartLaws.{kept-fresh}
 use Rattle.kept.specs.VerdictLaws.{verdict-fresh}
-
--- how many atoms differ between two candidates
-unfoldable pub changedAtoms : Tables → Interpretation → Interpretation → ℕ
-changedAtoms T I J = count (λ a. unlike (I a) (J a)) 0 (atomCount T)
 
 outside-false : (A : ℕ) (J : Interpretation) → Within A J → (a : ℕ) → A ≤ a → J a ≡ false
 outside-false A J w a l = go (J a) refl
@@ -91,6 +88,10 @@ module _ (T : Tables) (good : Consistent T) where
   kept-result I J = rw (kept-fresh T good I J, verdict-fresh T J)
 
   module _ (floor divisor : ℕ) where
+    pub not-kept : (J : Interpretation) → isKept floor divisor T J (zeroed T) ≡ false
+    unfolding isKept zeroed
+    not-kept J = refl
+
     pub result-zeroed : (J : Interpretation) → result floor divisor T J (zeroed T) ≡ accepted (verdict T J) (nodeCount T) (fresh T J)
     unfolding result isKept zeroed
     result-zeroed J = rw (le-ltb (rootCount T) (T .made) (good .few)) (fresh-result J)
@@ -107,7 +108,7 @@ module _ (T : Tables) (good : Consistent T) where
     unfolding fresh summary held
     held-stamp I = eq-eqb (T .counts .stamp) (T .counts .stamp) refl
 
-    is-kept : (I J : Interpretation) → Within (atomCount T) J → isKept floor divisor T J (fresh T I) ≡ leb (changedAtoms T I J) (most floor divisor T)
+    pub is-kept : (I J : Interpretation) → Within (atomCount T) J → isKept floor divisor T J (fresh T I) ≡ leb (changedAtoms T I J) (most floor divisor T)
     unfolding isKept
     is-kept I J w = rw (held-state I, held-stamp I, changes-fresh T I J w)
 

@@ -13,6 +13,7 @@ pub mod Parts
 pub mod Step
 pub mod Start
 pub mod Walk
+pub mod Changed
 pub mod Dirty
 pub mod Check
 pub mod Layout
@@ -28,6 +29,7 @@ pub mod StepLaws
 pub mod WalkLaws
 pub mod StartLaws
 pub mod Naming
+pub mod Decides
 pub mod VerdictLaws
 pub mod CheckLaws
 pub mod LayoutLaws

@@ -2,26 +2,23 @@
 -- Assumes nothing.
 use Prim.Native.Nat.{ℕ, _<_, _≤_}
 use mathlib.Core.Path.{_≡_}
-use mathlib.Core.Logic.{_↔_}
 use mathlib.Core.Bool.{Bool, true, false, cond}
 use mathlib.Core.List.{List, [], _∷_, _++_}
 use mathlib.Core.Option.{Option, some, none}
 use lib.ListN.{length, replicate}
 use Rattle.base.specs.Places.{places, count}
-use Rattle.formula.specs.Stable.{Stable}
-use Rattle.theory.specs.NodeFormula.{rootFormulas}
 use Rattle.theory.specs.declared.Admission.the-variants.{Admitted}
 use Rattle.theory.specs.declared.Refusal.{Refusal}
 use Rattle.theory.specs.declared.Refusal.the-variants.{BadEntry}
 use Rattle.kept.specs.Tables.{Tables, nodeCount}
 use Rattle.kept.specs.Evaluation.{fresh}
-use Rattle.kept.specs.Verdict.{Verdict, stable}
+use Rattle.kept.specs.Verdict.{Verdict}
 use Rattle.kept.specs.Dirty.{dirty}
 use Rattle.kept.specs.Walk.{ended, keptWalk}
-use Rattle.kept.specs.Check.{most}
-use Rattle.kept.specs.CheckLaws.{changedAtoms}
+use Rattle.kept.specs.Check.{most, isKept}
+use Rattle.kept.specs.Changed.{changedAtoms}
 use Rattle.kept.specs.Layout.{ofWords, listed}
-use Rattle.kept.specs.Naming.{Right}
+use Rattle.kept.specs.Decides.{DecidesTheory}
 use Rattle.kept.specs.Candidate.{Candidate, atomsOf}
 use Rattle.kept.specs.Tests.{tests}
 use Rattle.kept.specs.Outcome.{Answer, accepted, refused, outcome}
@@ -56,14 +53,23 @@ module _ (floor divisor : ℕ) (T : Tables) where
   anew zeros none = zeros
   anew zeros (some c) = wordsAfter c zeros
 
-  -- the number of nodes gone over, where d was the last accepted candidate: a kept check's walk takes exactly the dirty nodes, rising
+  -- the check is a kept one
+  abbrev pub Kept : List ℕ → Candidate → Type 0
+  Kept ws c = isKept floor divisor T (atomsOf T c) (ofWords T ws) ≡ true
+
+  abbrev pub Fresh : List ℕ → Candidate → Type 0
+  Fresh ws c = isKept floor divisor T (atomsOf T c) (ofWords T ws) ≡ false
+
+  -- the nodes gone over, where d was the last accepted candidate: a kept check's walk takes exactly the dirty nodes, each once,
+  -- rising, and their number is reported; a fresh check reports the number of all nodes
   abbrev pub GoneOver : Option Candidate → List ℕ → Candidate → ℕ → Type 0
-  GoneOver none ws c n = n ≡ nodeCount T
+  GoneOver none ws c n = Fresh ws c × (n ≡ nodeCount T)
   GoneOver (some d) ws c n =
       (changedAtoms T (atomsOf T d) (atomsOf T c) ≤ most floor divisor T
-      → (keptWalk T (atomsOf T c) (ofWords T ws) ≡ ended (places (dirty T (atomsOf T d) (atomsOf T c)) 0 (nodeCount T)) (fresh T (atomsOf T c)))
+      → Kept ws c
+      × (keptWalk T (atomsOf T c) (ofWords T ws) ≡ ended (places (dirty T (atomsOf T d) (atomsOf T c)) 0 (nodeCount T)) (fresh T (atomsOf T c)))
       × (n ≡ count (dirty T (atomsOf T d) (atomsOf T c)) 0 (nodeCount T)))
-      × (most floor divisor T < changedAtoms T (atomsOf T d) (atomsOf T c) → n ≡ nodeCount T)
+      × (most floor divisor T < changedAtoms T (atomsOf T d) (atomsOf T c) → Fresh ws c × (n ≡ nodeCount T))
 
   -- one check of the series: o the last candidate accepted before it, ws the words that it is lent
   pub record SeriesCheck (zeros : List ℕ) (o : Option Candidate) (ws : List ℕ) (c : Candidate) : Type 0 where
@@ -71,9 +77,7 @@ module _ (floor divisor : ℕ) (T : Tables) where
     pub let-pass : tests T c (length ws) ≡ Admitted → isAccepted (answerTo c ws) ≡ true
     pub unaltered : (r : Refusal) → answerTo c ws ≡ refused r → wordsAfter c ws ≡ ws
     pub as-fresh : (v : Verdict) (n : ℕ) → answerTo c ws ≡ accepted v n → outcome floor divisor T c zeros ≡ record { answer = accepted v (nodeCount T); words = wordsAfter c ws }
-    pub right : (v : Verdict) (n : ℕ) → answerTo c ws ≡ accepted v n → Right T (atomsOf T c) v
-    pub stable-model : (v : Verdict) (n : ℕ) → answerTo c ws ≡ accepted v n
-        → (v ≡ stable) ↔ Stable (atomsOf T c) (rootFormulas (T .counts) (T .nodes) (T .operands) (T .roots))
+    pub decides : (v : Verdict) (n : ℕ) → answerTo c ws ≡ accepted v n → DecidesTheory (T .counts) (T .nodes) (T .operands) (T .roots) (atomsOf T c) v
     pub gone-over : (v : Verdict) (n : ℕ) → answerTo c ws ≡ accepted v n → GoneOver o ws c n
 
   -- demand 3: the words after every series, and each check in it

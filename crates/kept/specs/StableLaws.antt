@@ -17,7 +17,7 @@ use Rattle.formula.specs.Passes.{Within}
 use Rattle.formula.specs.Root as papers
 use Rattle.formula.specs.Support.{produces, supported, SupportedModel}
 use Rattle.formula.specs.Head.{headAtom}
-use Rattle.theory.specs.NodeFormula.{formula, rootFormulas}
+use Rattle.theory.specs.NodeFormula.{formula}
 use Rattle.theory.specs.Refusals.{not-both}
 use Rattle.theory.proofs.Meaning.{truth-at}
 use Rattle.theory.specs.declared.Admission.the-variants.{Admitted}
@@ -31,6 +31,7 @@ use Rattle.compile.proofs.RootFormula.{root-formula}
 use Rattle.kept.specs.Tables.{Tables, atomCount, rootCount, rootAt, bodyAt}
 use Rattle.kept.specs.Evaluation.{truth, bodyTrue}
 use Rattle.kept.specs.Naming.{AllTrue, Unproduced, AllProduced}
+use Rattle.kept.specs.Decides.{theoryOf}
 use Rattle.kept.specs.Planned.{classesIn, producersIn, PlannedTables}
 use Rattle.kept.specs.PlannedLaws.{noProducer, rootList, Supported, length-roots, root-listed, roots-supported, well, head-is, body-is}
 
@@ -104,16 +105,20 @@ module _ (T : Tables) (plan : PlannedTables T) where
   theory-by (x ∷ xs) h =
       ap₂ _∷_ (root-formula (T .counts) (T .nodes) (T .operands) (T .roots) (well T plan) (plan .node-tables .operands-long) (classesIn T) x (h .0 .0) (h .0 .1)) (theory-by xs (h .1))
 
-  pub theory-is : papers.theory (rootsOf (T .counts) (T .nodes) (T .operands) (T .roots)) ≡ rootFormulas (T .counts) (T .nodes) (T .operands) (T .roots)
-  unfolding papers.theory rootsOf rootFormulas f
-  theory-is = ap ofList (theory-by (rootList T plan) (roots-supported T plan))
+  pub formulas-are : map papers.rootFormula (rootsOf (T .counts) (T .nodes) (T .operands) (T .roots)) ≡ theoryOf (T .counts) (T .nodes) (T .operands) (T .roots)
+  unfolding rootsOf f
+  formulas-are = theory-by (rootList T plan) (roots-supported T plan)
 
-  truth-sat : (I : Interpretation) (k : ℕ) → truth T I k ≡ sat I (f k)
-  unfolding truth f
+  pub theory-is : papers.theory (rootsOf (T .counts) (T .nodes) (T .operands) (T .roots)) ≡ ofList (theoryOf (T .counts) (T .nodes) (T .operands) (T .roots))
+  unfolding papers.theory
+  theory-is = ap ofList formulas-are
+
+  pub truth-sat : (I : Interpretation) (k : ℕ) → truth T I k ≡ sat I (formula (T .counts) (T .nodes) (T .operands) k)
+  unfolding truth
   truth-sat I k = sym (truth-at I (T .counts) (T .nodes) (T .operands) k)
 
   body-sat : (I : Interpretation) (b : ℕ) → bodyTrue (truth T I) b ≡ bodyTrue (λ o. sat I (f o)) b
-  unfolding bodyTrue
+  unfolding bodyTrue f
   body-sat I zero = refl
   body-sat I (suc b) = truth-sat I b
 
@@ -150,24 +155,22 @@ module _ (T : Tables) (plan : PlannedTables T) where
     abbrev xs : List papers.Root
     xs = rootsOf (T .counts) (T .nodes) (T .operands) (T .roots)
 
-    pub to-supported : Within (atomCount T) I → AllTrue T I → AllProduced T I → SupportedModel I xs
-    unfolding rootFormulas f
-    to-supported w t n =
-        record {
-          model = rw theory-is (to-all I f (rootList T plan) (λ r l. at r (omega (arith, length-roots T plan))));
-          support = λ a p. go a p (supported I a xs) refl;
-        }
-      where
-        at : (r : ℕ) → r < rootCount T → sat I (f (getD (rootList T plan) r 0)) ≡ true
-        at r l = rw (root-listed T plan r l) (sym (truth-sat I (rootAt T r)) ∙ t r l)
+    pub true-model : AllTrue T I → all I (ofList (theoryOf (T .counts) (T .nodes) (T .operands) (T .roots))) ≡ true
+    true-model t =
+        to-all I (formula (T .counts) (T .nodes) (T .operands)) (rootList T plan)
+        (λ r l. let m : r < rootCount T = omega (arith, length-roots T plan) in rw (root-listed T plan r m) (sym (truth-sat I (rootAt T r)) ∙ t r m))
 
+    pub model-true : all I (ofList (theoryOf (T .counts) (T .nodes) (T .operands) (T .roots))) ≡ true → AllTrue T I
+    model-true e r l =
+        truth-sat I (rootAt T r) ∙ ap (λ k. sat I (formula (T .counts) (T .nodes) (T .operands) k)) (sym (root-listed T plan r l))
+        ∙ all-to I (formula (T .counts) (T .nodes) (T .operands)) (rootList T plan) e r (omega (arith, length-roots T plan))
+
+    pub to-supported : Within (atomCount T) I → AllTrue T I → AllProduced T I → SupportedModel I xs
+    to-supported w t n = record { model = rw theory-is (true-model t); support = λ a p. go a p (supported I a xs) refl }
+      where
         go : (a : ℕ) → I a ≡ true → (b : Bool) → supported I a xs ≡ b → supported I a xs ≡ true
         go a p true e = e
         go a p false e = absurd (n a (w a p) p (is-unproduced I a e))
 
     pub from-supported : SupportedModel I xs → AllTrue T I × AllProduced T I
-    unfolding rootFormulas f
-    from-supported q = (
-      λ r l. truth-sat I (rootAt T r) ∙ ap (λ k. sat I (f k)) (sym (root-listed T plan r l)) ∙ all-to I f (rootList T plan) (rw theory-is at (q .model)) r (omega (arith, length-roots T plan)),
-      λ a l p u. true≢false (sym (q .support a p) ∙ unproduced-is I a u),
-    )
+    from-supported q = (model-true (rw theory-is at (q .model)), λ a l p u. true≢false (sym (q .support a p) ∙ unproduced-is I a u))

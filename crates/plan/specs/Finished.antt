@@ -15,8 +15,7 @@ use Rattle.theory.specs.declared.Refusal.{Refusal}
 use Rattle.theory.specs.declared.Admission.{Admission}
 use Rattle.theory.specs.declared.Admission.the-variants as admission
 use Rattle.compile.specs.ClassWord.{classWords}
-use Rattle.compile.specs.Producers.{rootsSupported, producerWords}
-use Rattle.compile.specs.ProducersLaws.{producersBefore}
+use Rattle.compile.specs.Producers.{rootsSupported, producersBefore, producerWords}
 use Rattle.readers.specs.ReaderTable.{built}
 use Rattle.ranks.specs.RankCheck.{rankCheck}
 use Rattle.kahn.specs.Area.{part}

@@ -9,8 +9,7 @@ use Rattle.theory.specs.declared.Counts.{Counts}
 use Rattle.theory.specs.declared.Admission.{Admission}
 use Rattle.theory.specs.declared.Admission.the-variants as admission
 use Rattle.compile.specs.ClassWord.{classWords}
-use Rattle.compile.specs.Producers.{producerWords}
-use Rattle.compile.specs.ProducersLaws.{producersBefore}
+use Rattle.compile.specs.Producers.{producersBefore, producerWords}
 use Rattle.compile.specs.declared.Producer.{Producer}
 use Rattle.readers.specs.ReaderTable.{built}
 use Rattle.plan.specs.declared.Lengths.{Lengths}

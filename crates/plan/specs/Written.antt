@@ -12,8 +12,8 @@ use Rattle.theory.specs.WellFormed.{NodeTables, RootTable}
 use Rattle.theory.specs.Limits.{Limited}
 use Rattle.theory.specs.declared.Counts.{Counts}
 use Rattle.compile.specs.Producer.{produced}
-use Rattle.compile.specs.Producers.{madeBy, producers, producerWords}
-use Rattle.compile.specs.ProducersLaws.{producersBefore, few-producers}
+use Rattle.compile.specs.Producers.{madeBy, producers, producersBefore, producerWords}
+use Rattle.compile.specs.ProducersLaws.{few-producers}
 use Rattle.compile.specs.declared.Producer.{Producer}
 use Rattle.compile.specs.declared.Produced.{Produced}
 use Rattle.compile.specs.declared.Produced.the-variants.{Nothing, Made, Refused}

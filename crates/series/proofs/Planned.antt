@@ -19,8 +19,8 @@ use Rattle.theory.specs.declared.Counts.{Counts}
 use Rattle.theory.specs.declared.Admission.{Admission}
 use Rattle.theory.specs.declared.Admission.the-variants as admitted
 use Rattle.theory.proofs.Admitted.{admitted-formed}
-use Rattle.compile.specs.Producers.{rootsSupported, producerWords}
-use Rattle.compile.specs.ProducersLaws.{producersBefore, few-producers, length-words}
+use Rattle.compile.specs.Producers.{rootsSupported, producersBefore, producerWords}
+use Rattle.compile.specs.ProducersLaws.{few-producers, length-words}
 use Rattle.compile.specs.declared.Producer.{Producer}
 use Rattle.ranks.specs.Classed.{Classed}
 use Rattle.ranks.specs.RankCheck.{rankCheck}

@@ -6,8 +6,8 @@ use mathlib.Core.Path.{_≡_, _∙_}
 use Prim.Native.Nat.{_-_, _≤_}
 use lib.ListN.{length}
 use Rattle.base.specs.Front.{front, front-none}
-use Rattle.compile.specs.Producers.{producerWords}
-use Rattle.compile.specs.ProducersLaws.{producersBefore, producers-none, made-one}
+use Rattle.compile.specs.Producers.{producersBefore, producerWords}
+use Rattle.compile.specs.ProducersLaws.{producers-none, made-one}
 use Rattle.compile.proofs.extract.Statement.{statement}
 use Rattle.compile.proofs.extract.Tie as tie
 use Rattle.compile.proofs.extract.Reads as reads
