@@ -1,4 +1,5 @@
 pub mod Walk
+pub mod PlainWalk
 pub mod Decides
 pub mod Series
 pub mod Example

@@ -15,6 +15,7 @@ pub mod Start
 pub mod Walk
 pub mod Changed
 pub mod Dirty
+pub mod PlainWalk
 pub mod Check
 pub mod Layout
 pub mod Candidate

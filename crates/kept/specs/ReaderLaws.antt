@@ -24,12 +24,9 @@ use Rattle.kept.specs.CountedSetLaws.{count-more}
 use Rattle.kept.specs.Tables.{Tables, nodeCount, rootCount, rootAt, headAt, bodyAt, operandsAt}
 use Rattle.kept.specs.Evaluation.{Evaluation, held, bodyTrue, supports, support, falseRoot}
 use Rattle.kept.specs.Step.{readerUpdated, readersUpdated}
+use Rattle.kept.specs.PlainWalk.{among}
 use Rattle.kept.specs.Consistent.{Consistent, readersIn, operands-lower}
 use Rattle.kept.specs.HeldLaws.{held-agree, worklist-agree, support-agree, roots-agree, node-told, root-told, producer-told, told-append}
-
--- k stands in the list
-unfoldable pub among : ℕ → List ℕ → Bool
-among k xs = not (eqb (occurrences k xs) 0)
 
 occurs-lower : (k m : ℕ) (xs : List ℕ) → Each (λ o. o < m) xs → 0 < occurrences k xs → k < m
 unfolding occurrences

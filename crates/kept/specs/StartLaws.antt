@@ -232,3 +232,9 @@ module _ (T : Tables) where
         ∙ ap (λ e. walkFrom T (walkStart T J (atomCount T) e)) turning-fresh
         ∙ ap (walkFrom T) (start-turning (atomCount T) (omega arith) ∙ ap some turning-midway)
         ∙ walk-midway T good I J (nodeCount T) 0 (suc (nodeCount T)) (zero-add (nodeCount T)) (omega arith)
+
+    -- the walk begins with the new candidate and its missing atoms, and the atom nodes of the changed atoms on the worklist
+    pub start-fresh : walkStart T J (atomCount T) (fresh T I) ≡ some (summary T (truth T I) (touched T I J) J)
+    start-fresh =
+        ap (walkStart T J (atomCount T)) turning-fresh ∙ start-turning (atomCount T) (omega arith)
+        ∙ ap some (turning-midway ∙ sym (midway-start T good I J))

@@ -29,7 +29,8 @@ use Rattle.kept.specs.Step.{readersUpdated, took, tookAt, settled, settl
 use Rattle.kept.specs.Consistent.{Consistent, operands-lower, atom-lower}
 use Rattle.kept.specs.SeenLaws.{seen-sound}
 use Rattle.kept.specs.HeldLaws.{worklist-agree, truth-held, present-held, truths-held}
-use Rattle.kept.specs.ReaderLaws.{among, readers-told}
+use Rattle.kept.specs.PlainWalk.{among, truthBy, waitingAfter}
+use Rattle.kept.specs.ReaderLaws.{readers-told}
 
 -- ---- a node's truth goes by its atom, or by the truth of its operands
 
@@ -42,10 +43,6 @@ node-agree I J operands f g (Implies l r) h e = ap₂ (λ x y. not x || y) (e .0
 node-agree I J operands f g (And s c) h e = ap allTrue (map-agree (λ o. f o ≡ g o) f g (span operands s c) e (λ o p. p))
 node-agree I J operands f g (Or s c) h e = ap anyTrue (map-agree (λ o. f o ≡ g o) f g (span operands s c) e (λ o p. p))
 node-agree I J operands f g Unknown h e = refl
-
--- the truth of node k by the truth v of lower nodes and the candidate I
-abbrev pub truthBy : Tables → Interpretation → (ℕ → Bool) → ℕ → Bool
-truthBy T I v k = nodeTruth I (T .operands) v (nodeAt (T .nodes) k)
 
 pub truth-agree : (T : Tables) (I J : Interpretation) (f g : ℕ → Bool) (k : ℕ) → ((a : ℕ) → nodeAt (T .nodes) k ≡ Atom a → I a ≡ J a)
     → Each (λ o. f o ≡ g o) (operandsAt T k) → truthBy T I f k ≡ truthBy T J g k
@@ -61,10 +58,6 @@ pub truth-step : (T : Tables) (I : Interpretation) (k : ℕ) → k < nodeCount T
 unfolding truth nodeTruths
 truth-step T I k l s = rising-step false (truthBy T I) (nodeCount T) k l (λ f g h. truth-lower T I f g k s h)
 
--- the worklist after node k has become t
-unfoldable pub workAfter : Tables → (ℕ → Bool) → (ℕ → Bool) → ℕ → Bool → ℕ → Bool
-workAfter T v w k t j = updated w k false j || unlike (v k) t && among k (operandsAt T j)
-
 module _ (T : Tables) (good : Consistent T) (v w c : ℕ → Bool) where
   abbrev start : Evaluation
   start = held T v w (support T v) c (falseRoot T v)
@@ -79,8 +72,8 @@ module _ (T : Tables) (good : Consistent T) (v w c : ℕ → Bool) where
       (each-map (λ o. o < k) (λ o. truthAt start o ≡ v o) (operandsAt T k) (λ o i. truth-held T v w (support T v) c (falseRoot T v) o (omega arith)) (operands-lower T k (good .node k l))))
 
   settled-held : (k : ℕ) (t : Bool) → k < nodeCount T
-      → settled T k t (held T v (updated w k false) (support T v) c (falseRoot T v)) ≡ took k (summary T (updated v k t) (workAfter T v w k t) c)
-  unfolding settled summary workAfter
+      → settled T k t (held T v (updated w k false) (support T v) c (falseRoot T v)) ≡ took k (summary T (updated v k t) (waitingAfter T v w k t) c)
+  unfolding settled summary waitingAfter
   settled-held k t l = rw (truth-held T v off (support T v) c (falseRoot T v) k l) (go (unlike (v k) t) refl)
     where
       off : ℕ → Bool
@@ -115,7 +108,7 @@ module _ (T : Tables) (good : Consistent T) (v w c : ℕ → Bool) where
 
   -- a step takes the lowest node of the worklist and gives it its truth
   pub step-summary : (k : ℕ) → k < nodeCount T → w k ≡ true → ((j : ℕ) → j < k → w j ≡ false)
-      → step T (summary T v w c) ≡ took k (summary T (updated v k (truthBy T c v k)) (workAfter T v w k (truthBy T c v k)) c)
+      → step T (summary T v w c) ≡ took k (summary T (updated v k (truthBy T c v k)) (waitingAfter T v w k (truthBy T c v k)) c)
   unfolding step stepAt summary
   step-summary k l m h =
       ap (stepAt T start) (first-held k l m h)

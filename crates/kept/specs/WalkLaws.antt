@@ -29,8 +29,8 @@ use Rattle.kept.specs.Dirty.{touchedNode, touched, flips, dirty}
 use Rattle.kept.specs.Walk.{ended, walk}
 use Rattle.kept.specs.Consistent.{Consistent, operands-lower}
 use Rattle.kept.specs.HeldLaws.{held-agree}
-use Rattle.kept.specs.ReaderLaws.{among}
-use Rattle.kept.specs.StepLaws.{truthBy, truth-agree, truth-lower, truth-step, workAfter, step-summary}
+use Rattle.kept.specs.PlainWalk.{among, truthBy, waitingAfter}
+use Rattle.kept.specs.StepLaws.{truth-agree, truth-lower, truth-step, step-summary}
 
 -- ---- tests of the operands of a node
 
@@ -175,11 +175,11 @@ module _ (T : Tables) (good : Consistent T) where
         ∙ sym (truth-step T J k l (good .node k l))
 
     midway-step : (k : ℕ) → k < nodeCount T → dirty T I J k ≡ true → step T (midway k) ≡ took k (midway (suc k))
-    unfolding midway workAfter flips
+    unfolding midway waitingAfter flips
     midway-step k l e =
         step-summary T good (mixed k) (waiting k) J k l (waiting-here k l ∙ e) (waiting-below k)
         ∙ ap (took k) (rw (mixed-truth k l)
-        (summary-agree (updated (mixed k) k (truth T J k)) (mixed (suc k)) (workAfter T (mixed k) (waiting k) k (truth T J k)) (waiting (suc k)) J J
+        (summary-agree (updated (mixed k) k (truth T J k)) (mixed (suc k)) (waitingAfter T (mixed k) (waiting k) k (truth T J k)) (waiting (suc k)) J J
         (λ j i. mixed-next k j)
         (λ j i. ap (λ x. updated (waiting k) k false j || unlike x (truth T J k) && among k (operandsAt T j)) (mixed-here k) ∙ waiting-next k j l i)
         (λ a i. refl)))
