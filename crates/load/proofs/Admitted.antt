@@ -87,7 +87,7 @@ formed-start =
     }
 
 module _ (file : List ℕ) (s : Summary) (t : Contents) (e : theoryFile file ≡ sound s t) where
-  formed-whole : (stage : ℕ) × Formed stage (s .counts) (t .nodes) (t .operands) (t .roots)
+  pub formed-whole : (stage : ℕ) × Formed stage (s .counts) (t .nodes) (t .operands) (t .roots)
   unfolding theoryFile FormedAt
   formed-whole =
       let k = read-keeps file FormedAt (formed-next file) s t start nothing (length file) formed-start e in
@@ -113,7 +113,7 @@ pub record Plannable (s : Summary) (b : Tables) : Type 0 where
   pub within : limitsOf (s .counts) ≡ admission.Admitted
   pub admitted : admission (s .counts) (b .nodes) (b .operands) (b .roots) ≡ admission.Admitted
 
-loaded-sound : (s x : Summary) (t : Contents) (b : Tables) → loadingSound x t b .answer ≡ Sound s → (x ≡ s) × (loadingSound x t b .left ≡ holding t b)
+pub loaded-sound : (s x : Summary) (t : Contents) (b : Tables) → loadingSound x t b .answer ≡ Sound s → (x ≡ s) × (loadingSound x t b .left ≡ holding t b)
 unfolding loadingSound
 loaded-sound s x t b = go (ltb (length (b .nodes)) (3 * x .counts .nodes)) (ltb (length (b .operands)) (x .counts .operands)) (ltb (length (b .roots)) (x .counts .roots))
   where

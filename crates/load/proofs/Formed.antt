@@ -35,7 +35,7 @@ use Rattle.record.proofs.Steps.{unless-next}
 
 module _ (t u : Counts) (ns xs os ys rs zs : List ℕ) (atoms : u .atoms ≡ t .atoms) (nodes : t .nodes ≤ u .nodes) (operands : t .operands ≤ u .operands)
     (ln : length ns ≡ 3 * t .nodes) (lo : length os ≡ t .operands) (lr : length rs ≡ t .roots) where
-  node-front : (k : ℕ) → k < t .nodes → nodeAt (ns ++ xs) k ≡ nodeAt ns k
+  pub node-front : (k : ℕ) → k < t .nodes → nodeAt (ns ++ xs) k ≡ nodeAt ns k
   unfolding nodeAt
   node-front k h =
       rw (List·getD-append ns xs 0 (3 * k) (omega arith), List·getD-append ns xs 0 (3 * k + 1) (omega arith), List·getD-append ns xs 0 (3 * k + 2) (omega arith))
@@ -45,7 +45,7 @@ module _ (t u : Counts) (ns xs os ys rs zs : List ℕ) (atoms : u .atoms ≡ t .
   start-front zero h = refl
   start-front (suc k) h = rw (node-front k (omega arith), start-front k (omega arith))
 
-  span-front : (s c : ℕ) → s + c ≤ t .operands → span (os ++ ys) s c ≡ span os s c
+  pub span-front : (s c : ℕ) → s + c ≤ t .operands → span (os ++ ys) s c ≡ span os s c
   unfolding span
   span-front s c h = rw (drop-append-le s os ys (omega arith)) (take-append-le c (drop s os) ys (omega (arith, length-drop s os)))
 

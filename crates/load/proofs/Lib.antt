@@ -4,4 +4,5 @@ pub mod Outcomes
 pub mod Sets
 pub mod Formed
 pub mod Admitted
+pub mod Theory
 pub mod Candidates
