@@ -4,18 +4,17 @@ use Prim.Native.Nat.{ℕ}
 use native.Mathlib.Omega.{arith}
 use mathlib.Core.Path.{_≡_, refl, ap, sym, _∙_}
 use mathlib.Core.Logic.{inl, inr}
-use mathlib.Core.Bool.{Bool, true, false, _&&_, _||_, false≢true}
+use mathlib.Core.Bool.{Bool, true, false, _||_, false≢true}
 use mathlib.Core.List.{List, [], _∷_, map}
 use lib.Dec.{eqb}
 use borrow.Author.Tests.{eqb-true, eq-eqb}
 use Rattle.base.specs.Tests.{both, both-left, both-right, neither-left, neither-right}
-use Rattle.base.specs.Each.{Each}
-use Rattle.formula.specs.Formula.{Formula, atom, falsum, implies, disj, cons}
+use Rattle.formula.specs.Formula.{Formula, falsum, implies}
 use Rattle.formula.specs.Satisfaction.{Interpretation, sat}
-use Rattle.formula.specs.Head.{Head, normal, choice, flipped, headAtom, headFormula, negated}
+use Rattle.formula.specs.Head.{Head, normal, choice, flipped, headAtom, headFormula}
 use Rattle.formula.specs.Root.{Root, constraint, denial, fact, rule, rootFormula}
 use Rattle.formula.specs.Support.{produces, supported}
-use Rattle.formula.specs.Producer.{HeadOf, SatisfiedRule, Produces}
+use Rattle.formula.specs.Producer.{Produces}
 use Rattle.formula.specs.Named.{Unproduced}
 
 -- ---- a head is no other formula

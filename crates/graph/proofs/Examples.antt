@@ -29,6 +29,11 @@ behind : derive 3 4 (edge 1 3 ∷ edge 3 1 ∷ edge 3 2 ∷ []) ≡ cycle 1
 unfolding derive lowest places rising extended removed remaining depth peak
 behind = refl
 
+-- atom 0 stands behind the cycle of atom 1 and not on it, and is the lowest that does
+ahead : derive 2 3 (edge 1 2 ∷ edge 2 1 ∷ edge 2 0 ∷ []) ≡ cycle 0
+unfolding derive lowest places rising extended removed remaining depth peak
+ahead = refl
+
 -- a source that is no atom and has no edge into it: the rank is not below the number of atoms
 groundless : derive 1 2 (edge 1 0 ∷ []) ≡ ranks (1 ∷ [])
 unfolding derive lowest places rising extended removed remaining depth peak

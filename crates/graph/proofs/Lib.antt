@@ -4,8 +4,10 @@ pub mod Rounds
 pub mod Depths
 pub mod Paths
 pub mod Ranks
+pub mod Longest
 pub mod Times
 pub mod TakenOut
+pub mod Cycles
 pub mod Kahn
 pub mod KahnEnd
 pub mod Examples

@@ -2,15 +2,17 @@
 -- Assumes nothing.
 use Prim.Native.Nat.{ℕ, zero, suc, _+_, _≤_, max}
 use native.Mathlib.Omega.{arith}
-use mathlib.Core.Path.{_≡_, refl, _∙_}
+use mathlib.Core.Path.{_≡_, refl, sym, _∙_}
 use mathlib.Core.Logic.{_⊎_, inl, inr, ⊎-elim}
 use mathlib.Core.Bool.{Bool, true, false, cond, _&&_}
 use mathlib.Core.List.{List, [], _∷_, List·Memᴰ, List·Memᴰ·head, List·Memᴰ·tail, List·Memᴰ·cases-cons, List·Memᴰ·not-nil}
 use lib.Dec.{eqb, leb}
+use lib.ListN.{length}
 use borrow.Author.Tests.{eqb-true, leb-true, leb-false}
 use Rattle.base.specs.Each.{Each}
 use Rattle.graph.specs.Edge.{Edge, cost}
 use Rattle.graph.specs.Depth.{peak, every, depth}
+use Rattle.graph.specs.Path.{Path, steps}
 use Rattle.graph.proofs.Depths.{peak-ge}
 
 pub each-in : (P : Edge → Type 0) (e : Edge) (xs : List Edge) → Each P xs → List·Memᴰ e xs → P e
@@ -38,23 +40,22 @@ module _ (A : ℕ) where
       go true i false j ih = later f v x xs (peak A every f v xs) _ (omega (arith, leb-false (peak A every f v xs) (f (x .source) + cost A x) j)) ih
 
   module _ (es : List Edge) where
-    -- a path into v of at most k edges, c of them strict
-    pub data Path : ℕ → ℕ → ℕ → Type 0 where
-      from : (k v : ℕ) → Path k v 0
-      along : (e : Edge) → List·Memᴰ e es → {k c : ℕ} → Path k (e .source) c → Path (suc k) (e .target) (c + cost A e)
-
-    -- one has as many as the depth, and none has more
-    pub deepest : (k v : ℕ) → Path k v (depth A es k v)
-    unfolding depth
-    deepest zero v = from zero v
+    -- among the paths of at most k edges one has as many as the depth
+    pub deepest : (k v : ℕ) → (u : ℕ) × (p : List Edge) × Path es u v p × (length p ≤ k) × (steps A p ≡ depth A es k v)
+    unfolding depth steps
+    deepest zero v = (v, [], refl, omega arith, refl)
     deepest (suc k) v =
         ⊎-elim
-        (λ z. rw z (from (suc k) v))
-        (λ w. rw (w .3, ← w .2) (along (w .0) (w .1) (deepest k (w .0 .source))))
+        (λ z. (v, [], refl, omega arith, sym z))
+        (λ w.
+        let d = deepest k (w .0 .source) in
+        (d .0, w .0 ∷ d .1, (w .1, w .2, d .2), omega (arith, d .3), omega (arith, d .4, w .3)))
         (peak-is (depth A es k) v es)
 
-    pub no-deeper : (k v c : ℕ) → Path k v c → c ≤ depth A es k v
-    unfolding depth
-    no-deeper k v c (from j w) = omega arith
-    no-deeper k v c (along e m {k = j} {c = d} w) =
-        omega (arith, no-deeper j (e .source) d w, each-in _ e es (peak-ge A (depth A es j) (e .target) es) m refl)
+    -- and none has more
+    pub no-deeper : (k u v : ℕ) (p : List Edge) → Path es u v p → length p ≤ k → steps A p ≤ depth A es k v
+    unfolding depth steps
+    no-deeper k u v [] w l = omega arith
+    no-deeper zero u v (e ∷ p) w l = absurd (omega arith)
+    no-deeper (suc k) u v (e ∷ p) w l =
+        omega (arith, no-deeper k u (e .source) p (w .2) (omega arith), each-in _ e es (peak-ge A (depth A es k) v es) (w .0) (w .1))

@@ -1,6 +1,9 @@
 pub mod Edge
 pub mod Removed
 pub mod Depth
+pub mod Path
+pub mod Longest
+pub mod Cycle
 pub mod Accepts
 pub mod Derive
 pub mod Right

@@ -1,1 +1,1 @@
-// No code: graphs, Kahn's removal, and least ranks. Crate `kahn` derives the ranks.
+// No code: graphs, their paths and cycles, Kahn's removal, and least ranks. Crate `kahn` derives the ranks.

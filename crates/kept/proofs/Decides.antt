@@ -25,7 +25,7 @@ use Rattle.kept.specs.Verdict.{Verdict, notModel, residual, stable, verd
 use Rattle.kept.specs.Naming.{FirstFalse, FirstUnproduced, AllTrue, Unproduced, AllProduced, Right}
 use Rattle.kept.specs.VerdictLaws.{verdict-right}
 use Rattle.kept.specs.Planned.{PlannedTables}
-use Rattle.kept.specs.PlannedLaws.{rootList, length-roots, root-listed, roots-supported}
+use Rattle.kept.specs.PlannedLaws.{rootList, length-roots, root-listed}
 use Rattle.kept.specs.StableLaws.{theory-is, formulas-are, truth-sat, unproduced-is, is-unproduced, model-true, true-model, to-supported, from-supported}
 use Rattle.kept.specs.Decides.{Decides, theoryOf, DecidesTheory}
 

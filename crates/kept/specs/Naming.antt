@@ -1,4 +1,4 @@
--- What the verdict names, said without the sets that find it.
+-- What the verdict names, by the truths of the nodes; `Decides` says it of the roots' formulas.
 -- Assumes nothing.
 use Prim.Native.Nat.{ℕ, _<_}
 use mathlib.Core.Path.{_≡_}
@@ -31,7 +31,7 @@ pub record FirstUnproduced (T : Tables) (I : Interpretation) (a : ℕ) : Type 0 
 abbrev pub AllProduced : Tables → Interpretation → Type 0
 AllProduced T I = (a : ℕ) → a < atomCount T → I a ≡ true → Unproduced T I a → ⊥
 
--- demand 2: not-model names the first false root exactly if some root is false; residual, exactly if none is false and
+-- not-model names the first false root exactly if some root is false; residual, exactly if none is false and
 -- some candidate atom has no producer, the lowest such atom; otherwise stable
 pub record Right (T : Tables) (I : Interpretation) (v : Verdict) : Type 0 where
   pub names-root : (k : ℕ) → v ≡ notModel k → (r : ℕ) × FirstFalse T I r × (rootAt T r ≡ k)

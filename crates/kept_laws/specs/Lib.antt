@@ -12,3 +12,4 @@ pub mod Written
 pub mod Wrote
 pub mod Given
 pub mod Within
+pub mod Listed

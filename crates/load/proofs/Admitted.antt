@@ -3,30 +3,28 @@
 use Prim.Native.Nat.{ℕ, _*_}
 use native.Mathlib.Omega.{arith}
 use mathlib.Core.Path.{_≡_, refl, ap, _∙_}
-use mathlib.Core.Bool.{Bool, true, false, cond, false≢true}
+use mathlib.Core.Bool.{Bool, true, false, cond}
 use mathlib.Core.List.{List, _++_}
 use lib.Dec.{ltb}
 use lib.ListN.{length, length-append}
-use borrow.Author.Tests.{le-ltb}
 use Rattle.theory.specs.Admission.{spanStart, admission}
 use Rattle.theory.specs.Limits.{limitsOf}
-use Rattle.theory.specs.declared.Counts.{Counts}
+use Rattle.theory.specs.LimitsLaws.{limited-admitted}
 use Rattle.theory.specs.declared.Admission.the-variants as admission
 use Rattle.theory.specs.declared.Refusal.the-variants.{ShortBuffer}
 use Rattle.theory.proofs.Admitted.{formed-admitted}
-use Rattle.record.specs.Mark.{markAt, inOrder}
+use Rattle.record.specs.Mark.{markAt}
 use Rattle.record.specs.Layout.{recordEnd, valueCount, valuesOf}
-use Rattle.record.specs.Passed.{countsAfter, passed}
+use Rattle.record.specs.Passed.{countsAfter}
 use Rattle.record.specs.Record.{judged}
 use Rattle.record.specs.Contents.{Contents, nothing, joined, ofNext}
 use Rattle.record.specs.File.{File, sound, refused, start, theoryFile}
 use Rattle.record.specs.declared.Cursor.{Cursor}
 use Rattle.record.specs.declared.Mark.{Mark}
-use Rattle.record.specs.declared.Mark.the-variants.{Theory, Atom, False, Implies, And, Or, Root, Candidate, Unknown}
 use Rattle.record.specs.declared.Step.the-variants.{Next}
 use Rattle.record.specs.declared.Summary.{Summary}
 use Rattle.record.proofs.Laws.{length-numbers}
-use Rattle.record.proofs.Steps.{next-passed, passed-fields, fixed-least}
+use Rattle.record.proofs.Steps.{next-passed, passed-fields, begun, fixed-least}
 use Rattle.record.proofs.Judging.{read-keeps, sound-limited}
 use Rattle.load.specs.Tables.{Tables, over, holding}
 use Rattle.load.specs.Loading.{loading, loadingSound, outcome}
@@ -37,18 +35,6 @@ use Rattle.load.proofs.Formed.{Formed, record-formed, formed-extends}
 pub length-values : (file : List ℕ) (at : ℕ) (mark : Mark) → length (valuesOf file at mark) ≡ valueCount file at mark
 unfolding valuesOf
 length-values file at mark = length-numbers file _ (valueCount file at mark)
-
--- after a record in order something was read
-begun : (c : Cursor) (mark : Mark) (t : Counts) (end : ℕ) → inOrder mark (c .stage) ≡ true → passed c mark t end .stage ≡ 0 → ⊥
-begun c Theory t end o e = omega arith
-begun c Atom t end o e = omega arith
-begun c False t end o e = omega arith
-begun c Implies t end o e = omega arith
-begun c And t end o e = omega arith
-begun c Or t end o e = omega arith
-begun c Root t end o e = omega arith
-begun c Candidate t end o e = omega arith
-begun c Unknown t end o e = false≢true o
 
 FormedAt : Cursor → Contents → Type 0
 FormedAt c t = Formed (c .stage) (c .counts) (t .nodes) (t .operands) (t .roots)
@@ -102,10 +88,7 @@ module _ (file : List ℕ) (s : Summary) (t : Contents) (e : theoryFile file ≡
       (λ k l h. absurd (omega arith)) (λ i l h. absurd (omega arith)))
 
   pub contents-within : limitsOf (s .counts) ≡ admission.Admitted
-  unfolding limitsOf
-  contents-within =
-      let l = sound-limited file s t e in
-      simp (le-ltb 65536 (s .counts .atoms) (l .atoms), le-ltb 262144 (s .counts .nodes) (l .nodes), le-ltb 1048576 (s .counts .operands) (l .operands), le-ltb 262144 (s .counts .roots) (l .roots))
+  contents-within = limited-admitted (s .counts) (sound-limited file s t e)
 
 -- ---- the tables that `load` leaves
 

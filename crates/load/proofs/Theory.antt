@@ -4,7 +4,7 @@ use Prim.Native.Nat.{ℕ, _+_, _<_, _≤_}
 use native.Mathlib.Omega.{arith}
 use mathlib.Core.Path.{_≡_, refl, sym, ap, fun-ext, _∙_}
 use mathlib.Core.List.{List, _++_, map, map-id}
-use lib.ListN.{length, getD, take, drop}
+use lib.ListN.{getD, take}
 use lib.Seq.{take-append-le}
 use Rattle.base.specs.Rising.{rising, rising-map}
 use Rattle.formula.specs.Formula.{Formula, falsum, conj, disj, ofList}
@@ -16,10 +16,10 @@ use Rattle.theory.specs.declared.Counts.{Counts}
 use Rattle.theory.specs.declared.Node.{Node}
 use Rattle.theory.specs.declared.Node.the-variants.{Atom, False, Implies, And, Or, Unknown}
 use Rattle.record.specs.Contents.{Contents}
-use Rattle.record.specs.File.{File, sound, refused, theoryFile}
+use Rattle.record.specs.File.{sound, theoryFile}
 use Rattle.record.specs.declared.Summary.{Summary}
 use Rattle.load.specs.Tables.{Tables, over, holding}
-use Rattle.load.specs.Loading.{loading, loadingSound}
+use Rattle.load.specs.Loading.{loading}
 use Rattle.load.specs.declared.Loaded.the-variants.{Sound}
 use Rattle.load.proofs.Formed.{Formed, node-front, span-front}
 use Rattle.load.proofs.Admitted.{formed-whole, loaded-sound}

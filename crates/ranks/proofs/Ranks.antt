@@ -16,8 +16,12 @@ use Rattle.graph.specs.Edge.{Edge, edge, cost, Rises}
 use Rattle.graph.specs.Accepts.{Accepts}
 use Rattle.graph.specs.Derive.{Derived, ranks, cycle, derive}
 use Rattle.graph.specs.Right.{Least, Stuck}
+use Rattle.graph.specs.Longest.{Longest}
+use Rattle.graph.specs.Cycle.{LowestBehind}
 use Rattle.graph.specs.Grounded.{Grounded}
 use Rattle.graph.proofs.Ranks as graph
+use Rattle.graph.proofs.Longest as paths
+use Rattle.graph.proofs.Cycles as cycles
 use Rattle.formula.specs.Class.{Class, positive, frozen, opaque, class, join}
 use Rattle.formula.specs.Rank.{isPositive, highest}
 use Rattle.theory.specs.Node.{nodeAt, span}
@@ -272,10 +276,20 @@ module _ (t : Counts) (nodes operands classes roots : List ℕ) (well : WellForm
         vertex-atom t nodes operands classes roots well tables classed (λ a. getD qs a 0) a l,
       )
 
+  -- each is the most producer steps on a path into its atom
+  pub derived-longest : (rs : List ℕ) → derive (t .atoms) (t .atoms + t .nodes) (dependencies t nodes operands classes roots) ≡ ranks rs
+      → (a : ℕ) → a < t .atoms → Longest (t .atoms) (dependencies t nodes operands classes roots) a (getD rs a 0)
+  derived-longest rs e a l = paths.longest (t .atoms) (t .atoms + t .nodes) (dependencies t nodes operands classes roots) rs e (omega arith) rises a l
+
   -- a cycle: no ranks are accepted, and the atom named is the lowest with predecessors left over
   pub cycle-stuck : (a : ℕ) → derive (t .atoms) (t .atoms + t .nodes) (dependencies t nodes operands classes roots) ≡ cycle a
       → Stuck (t .atoms) (t .atoms + t .nodes) (dependencies t nodes operands classes roots) a
   cycle-stuck a e = graph.cycle-right (t .atoms) (t .atoms + t .nodes) (dependencies t nodes operands classes roots) (omega arith) rises a e
+
+  -- it is the lowest on or behind a positive cycle, and no other is named
+  pub cycle-names : (a : ℕ) → (derive (t .atoms) (t .atoms + t .nodes) (dependencies t nodes operands classes roots) ≡ cycle a)
+      ↔ LowestBehind (t .atoms) (dependencies t nodes operands classes roots) a
+  cycle-names a = cycles.cycle-names (t .atoms) (t .atoms + t .nodes) (dependencies t nodes operands classes roots) (omega arith) rises a
 
   pub cycle-exactly : ((a : ℕ) × (derive (t .atoms) (t .atoms + t .nodes) (dependencies t nodes operands classes roots) ≡ cycle a))
       ↔ ((rs : List ℕ) → rankCheck t nodes operands classes roots rs ≡ admission.Admitted → ⊥)

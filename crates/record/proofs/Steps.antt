@@ -164,6 +164,18 @@ passed-fields c Root t end = (refl, refl, refl, omega arith)
 passed-fields c Candidate t end = (refl, refl, refl, omega arith)
 passed-fields c Unknown t end = (refl, refl, refl, omega arith)
 
+-- after a record in order something was read
+pub begun : (c : Cursor) (mark : Mark) (t : Counts) (end : ℕ) → inOrder mark (c .stage) ≡ true → passed c mark t end .stage ≡ 0 → ⊥
+begun c Theory t end o e = omega arith
+begun c Atom t end o e = omega arith
+begun c False t end o e = omega arith
+begun c Implies t end o e = omega arith
+begun c And t end o e = omega arith
+begun c Or t end o e = omega arith
+begun c Root t end o e = omega arith
+begun c Candidate t end o e = omega arith
+begun c Unknown t end o e = false≢true o
+
 -- the cursor moves on and keeps its bounds
 pub next-within : (file : List ℕ) (c next : Cursor) → judged file c ≡ Next next → Within (length file) c
     → Within (length file) next × (c .at + 2 ≤ next .at) × (next .records ≡ c .records + 1)

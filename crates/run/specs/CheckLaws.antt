@@ -50,7 +50,7 @@ taken-long atoms vs rest ws e = sym (ap length (candidate-taken atoms vs rest ws
 
 -- ---- the candidates of a sound file
 
-pub candidates-read : (f : File) → contentsOf f .candidates ≡ candidatesOf f
+candidates-read : (f : File) → contentsOf f .candidates ≡ candidatesOf f
 unfolding contentsOf candidatesOf
 candidates-read (sound s t) = refl
 candidates-read (refused r) = refl

@@ -83,7 +83,7 @@ module _ (t : Counts) (nodes operands roots ps rs us ws : List ℕ) where
     unfolding judged
     entered = or-else-left _ _ (or-else-right (shortBuffer t lengthsOf) _ (or-else-right (limitsOf t) _ j))
 
-    supported : rootsSupported t nodes operands classesOf roots ≡ admitted.Admitted
+    pub supported : rootsSupported t nodes operands classesOf roots ≡ admitted.Admitted
     unfolding judged
     supported = or-else-right (admission t nodes operands roots) _ (or-else-right (shortBuffer t lengthsOf) _ (or-else-right (limitsOf t) _ j))
 
@@ -93,16 +93,16 @@ module _ (t : Counts) (nodes operands roots ps rs us ws : List ℕ) where
     long : LongEnough t lengthsOf
     long = long-enough t lengthsOf buffers
 
-    well : WellFormed t nodes operands roots
+    pub well : WellFormed t nodes operands roots
     well = admitted-formed t nodes operands roots entered
 
-    tables : NodeTables t nodes operands
+    pub tables : NodeTables t nodes operands
     tables = record { nodes-long = long .nodes-long; operands-long = long .operands-long; formed = well .node }
 
     listed : RootTable t roots
     listed = record { roots-long = long .roots-long; in-nodes = well .root }
 
-    classed : Classed t nodes operands classesOf
+    pub classed : Classed t nodes operands classesOf
     classed = record { word = λ k l. refl }
 
     few : length made ≤ t .roots
@@ -179,7 +179,7 @@ module _ (t : Counts) (nodes operands roots ps rs us ws : List ℕ) where
     accepted-derived (cycle a) q c = absurd (not-both _ c)
 
   -- an answer with producers is an admission
-  answered : (p : ℕ) (j : Admission) (ranked : List ℕ) → planned t nodes operands roots ps rs us ws j ranked .answer ≡ Planned p → (j ≡ admitted.Admitted) × (length made ≡ p)
+  pub answered : (p : ℕ) (j : Admission) (ranked : List ℕ) → planned t nodes operands roots ps rs us ws j ranked .answer ≡ Planned p → (j ≡ admitted.Admitted) × (length made ≡ p)
   unfolding planned
   answered p admitted.Admitted ranked e = (refl, cc)
   answered p (admitted.Refused r) ranked e = (cc, cc)

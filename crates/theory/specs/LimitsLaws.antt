@@ -3,7 +3,7 @@
 use mathlib.Core.Path.{_≡_, refl}
 use mathlib.Core.Bool.{Bool, true, false, cond}
 use lib.Dec.{ltb}
-use borrow.Author.Tests.{ltb-false}
+use borrow.Author.Tests.{ltb-false, le-ltb}
 use Rattle.theory.specs.Limits.{limitsOf, Limited}
 use Rattle.theory.specs.Refusals.{not-both}
 use Rattle.theory.specs.declared.Counts.{Counts}
@@ -24,3 +24,7 @@ within-limits t e =
     let c = passed (ltb 1048576 (t .operands)) _ _ (b .1) in
     let d = passed (ltb 262144 (t .roots)) _ _ (c .1) in
     record { atoms = ltb-false _ _ (a .0); nodes = ltb-false _ _ (b .0); operands = ltb-false _ _ (c .0); roots = ltb-false _ _ (d .0) }
+
+pub limited-admitted : (t : Counts) → Limited t → limitsOf t ≡ Admitted
+unfolding limitsOf
+limited-admitted t l = simp (le-ltb 65536 (t .atoms) (l .atoms), le-ltb 262144 (t .nodes) (l .nodes), le-ltb 1048576 (t .operands) (l .operands), le-ltb 262144 (t .roots) (l .roots))

@@ -1,0 +1,1 @@
+// No code: the three demands, stated of the public calls' outcomes.
