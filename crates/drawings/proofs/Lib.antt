@@ -1,2 +1,3 @@
 pub mod Plans
 pub mod Cases
+pub mod Stable

@@ -56,11 +56,11 @@ chosen-equal : Planned (λ a. 0) chosen → ⊥
 unfolding class highest
 chosen-equal p = let h : 0 < 0 = p .1 .0 .lower refl in omega arith
 
-chosen-1-unstable : Stable (among (1 ∷ [])) (theory chosen) → ⊥
+pub chosen-1-unstable : Stable (among (1 ∷ [])) (theory chosen) → ⊥
 unfolding passes below theory ofList sat supported produces
 chosen-1-unstable = unstable-by 2 chosen (1 ∷ []) refl refl
 
-chosen-01-stable : Stable (among (0 ∷ 1 ∷ [])) (theory chosen)
+pub chosen-01-stable : Stable (among (0 ∷ 1 ∷ [])) (theory chosen)
 unfolding passes below theory ofList sat supported produces
 chosen-01-stable = stable-by 2 chosen (0 ∷ 1 ∷ []) refl (λ a. a) chosen-planned refl
 
@@ -68,7 +68,7 @@ chosen-0-unstable : Stable (among (0 ∷ [])) (theory chosen) → ⊥
 unfolding passes below theory ofList sat supported produces
 chosen-0-unstable = unstable-by 2 chosen (0 ∷ []) refl refl
 
-chosen-none-stable : Stable (among []) (theory chosen)
+pub chosen-none-stable : Stable (among []) (theory chosen)
 unfolding passes below theory ofList sat supported produces
 chosen-none-stable = stable-by 2 chosen [] refl (λ a. a) chosen-planned refl
 
@@ -84,11 +84,11 @@ doubled-planned = (
   tt,
 )
 
-doubled-none-stable : Stable (among []) (theory doubled)
+pub doubled-none-stable : Stable (among []) (theory doubled)
 unfolding passes below theory ofList sat supported produces
 doubled-none-stable = stable-by 1 doubled [] refl (λ a. 0) doubled-planned refl
 
-doubled-0-stable : Stable (among (0 ∷ [])) (theory doubled)
+pub doubled-0-stable : Stable (among (0 ∷ [])) (theory doubled)
 unfolding passes below theory ofList sat supported produces
 doubled-0-stable = stable-by 1 doubled (0 ∷ []) refl (λ a. 0) doubled-planned refl
 
@@ -104,11 +104,11 @@ denied-0-unstable = unstable-by 1 denied (0 ∷ []) refl refl
 
 -- ---- no roots, one atom; the root False, no atoms
 
-empty-none-stable : Stable (among []) (theory [])
+pub empty-none-stable : Stable (among []) (theory [])
 unfolding passes below theory ofList sat supported
 empty-none-stable = stable-by 1 [] [] refl (λ a. 0) tt refl
 
-empty-0-unstable : Stable (among (0 ∷ [])) (theory []) → ⊥
+pub empty-0-unstable : Stable (among (0 ∷ [])) (theory []) → ⊥
 unfolding passes below theory ofList sat supported
 empty-0-unstable = unstable-by 1 [] (0 ∷ []) refl refl
 
@@ -149,3 +149,41 @@ implied-0-passes = refl
 implied-0-unstable : Stable (among (0 ∷ 1 ∷ [])) (theory implied-0) → ⊥
 unfolding theory ofList sat reduct
 implied-0-unstable s = s .minimal (among (1 ∷ [])) (record { within = λ a. or-right (eqb a 0); lost = 0; had = refl; hasn't = refl }) refl
+
+-- C5: atom 1 from atom 2, 2 from 1, 0 from 1
+abbrev pub turning : List Root
+turning = rule (atom 2) (normal 1) ∷ rule (atom 1) (normal 2) ∷ rule (atom 1) (normal 0) ∷ []
+
+turning-unplanned : (r : ℕ → ℕ) → Planned r turning → ⊥
+unfolding class highest
+turning-unplanned r p = omega (arith, p .0 .lower refl, p .1 .0 .lower refl)
+
+pub turning-none-stable : Stable (among []) (theory turning)
+unfolding theory ofList sat reduct
+turning-none-stable = record { model = refl; minimal = λ J w s. false≢true (w .had) }
+
+turning-all-passes : passes 3 (among (0 ∷ 1 ∷ 2 ∷ [])) turning ≡ true
+unfolding passes below theory ofList sat supported produces
+turning-all-passes = refl
+
+pub turning-all-unstable : Stable (among (0 ∷ 1 ∷ 2 ∷ [])) (theory turning) → ⊥
+unfolding theory ofList sat reduct
+turning-all-unstable s = s .minimal (among []) (record { within = λ a i. absurd (false≢true i); lost = 0; had = refl; hasn't = refl }) refl
+
+-- C6: atom 2 from the implication of 1 by 0, an Opaque body
+abbrev pub implied-2 : List Root
+implied-2 = rule (implies (atom 0) (atom 1)) (normal 2) ∷ []
+
+implied-2-unplanned : (r : ℕ → ℕ) → Planned r implied-2 → ⊥
+unfolding class
+implied-2-unplanned r p = p .0 .clear refl
+
+pub implied-2-stable : Stable (among (2 ∷ [])) (theory implied-2)
+unfolding theory ofList sat reduct
+implied-2-stable =
+    record {
+      model = refl;
+      minimal = λ J w s.
+          let e : w .lost ≡ 2 = ⊎-elim (λ p. eqb-true (w .lost) 2 p) (λ p. absurd (false≢true p)) (either (eqb (w .lost) 2) false (w .had)) in
+          true≢false (sym (both-left (J 2) true s) ∙ (rw e at (w .hasn't)));
+    }
