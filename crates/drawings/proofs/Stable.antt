@@ -105,10 +105,39 @@ facts =
 pub facts-hold : Each Holds facts
 unfolding exampleNodes exampleOperands exampleRoots fiveNodes fiveRoots sixNodes sixRoots sevenNodes sevenRoots formula nodeFormulas nodeFormula rising extended nodeAt span ofList sat theory
 facts-hold = (
-  (refl, (refl, chosen-1-unstable)), ((refl, chosen-01-stable), ((refl, refl), ((refl, chosen-none-stable),
-  ((refl, turning-none-stable), ((refl, (refl, turning-all-unstable)),
-  ((refl, implied-2-stable), ((refl, refl),
-  ((refl, doubled-none-stable), ((refl, doubled-0-stable),
-  ((refl, empty-none-stable), ((refl, (refl, empty-0-unstable)),
-  ((refl, refl), tt)))))))))))),
+  (refl, (refl, chosen-1-unstable)),
+  (
+    (refl, chosen-01-stable),
+    (
+      (refl, refl),
+      (
+        (refl, chosen-none-stable),
+        (
+          (refl, turning-none-stable),
+          (
+            (refl, (refl, turning-all-unstable)),
+            (
+              (refl, implied-2-stable),
+              (
+                (refl, refl),
+                (
+                  (refl, doubled-none-stable),
+                  (
+                    (refl, doubled-0-stable),
+                    (
+                      (refl, empty-none-stable),
+                      (
+                        (refl, (refl, empty-0-unstable)),
+                        ((refl, refl), tt),
+                      ),
+                    ),
+                  ),
+                ),
+              ),
+            ),
+          ),
+        ),
+      ),
+    ),
+  ),
 )
