@@ -3,7 +3,7 @@
 use Prim.Native.Nat.{ℕ, suc, _+_, _*_, _<_, _≤_}
 use native.Mathlib.Omega.{arith}
 use mathlib.Core.Path.{_≡_, refl, sym, ap, subst, _∙_}
-use mathlib.Core.Logic.{_⊎_, inl, inr, _↔_, ⊎-elim}
+use mathlib.Core.Logic.{_⊎_, inl, inr, ⊎-elim}
 use mathlib.Core.Bool.{Bool, true, false, cond, false≢true}
 use mathlib.Core.List.{List, [], _∷_, _++_, map, append-assoc}
 use mathlib.Core.Option.{none}
@@ -12,9 +12,7 @@ use lib.ListN.{length, getD, take, drop, replicate, length-replicate, length-app
 use borrow.Author.Tests.{le-ltb, ltb-true, ltb-false}
 use Rattle.base.specs.Tests.{below-or}
 use Rattle.base.specs.Front.{front}
-use Rattle.formula.specs.Formula.{ofList}
 use Rattle.formula.specs.Satisfaction.{Interpretation}
-use Rattle.formula.specs.Stable.{Stable}
 use Rattle.theory.specs.Admission.{allBelow}
 use Rattle.theory.specs.Limits.{Lent}
 use Rattle.theory.specs.declared.Admission.{Admission}
@@ -57,13 +55,13 @@ use Rattle.kept.specs.Tests.{tests}
 use Rattle.kept.specs.Series.{answerTo, isAccepted, lastAccepted, SeriesCheck}
 use Rattle.series.proofs.Planned.{plan-planned}
 use Rattle.text.specs.Decimal.{decimal}
-use Rattle.text.specs.Lines.{theoryLine, ranksLine, spaced, verdictText, verdictLine, refusedLine}
+use Rattle.text.specs.Lines.{stableWord, notModelWord, residualWord, theoryLine, ranksLine, spaced, verdictText, verdictLine, refusedLine}
 use Rattle.run.specs.Text.{candidateOf, checkLine, ownPlan, ownTables, candidatesOf, candidatesIn, textOf}
 use Rattle.run.specs.Planned.{tablesLoaded, planMade, tablesLent, PlannedFile, wordsLent}
 use Rattle.run.specs.TextLaws.{loaded-own, too-many-atoms, load-refused, plan-refused, load-sound, file-sound, file-refused, too-long as too-long-text}
 use Rattle.run.specs.CheckLaws.{file-candidates}
 use Rattle.run.proofs.Demand3.{run-text, run-check}
-use Rattle.demands.specs.Told.{Encodes, LineTells, Unplannable, Told, too-long, unsound, many-atoms, many-nodes, many-operands, many-roots, unplanned, judged}
+use Rattle.demands.specs.Told.{Encodes, LineTells, Says, WordTells, Unplannable, Told, too-long, unsound, many-atoms, many-nodes, many-operands, many-roots, unplanned, judged}
 use Rattle.demands.proofs.Unplannable.{unplannable}
 use Rattle.demands.proofs.Candidates as candidates
 use Rattle.demands.proofs.Candidates.{atoms-are, passes}
@@ -317,27 +315,65 @@ module _ (file : List ℕ) (bytes : Below 256 file) (short : length file ≤ 655
 pub told : (file : List ℕ) → Below 256 file → Told file
 told file bytes = ⊎-elim (λ l. too-long l (sym (too-long-text file l))) (λ l. by-file file bytes l (theoryFile file) refl) (below-or 65536 (length file))
 
--- ---- the bytes of a line: it says stable exactly if the candidate is a stable model
+-- ---- the bytes of a line
 
 cancel : (xs ys zs : List ℕ) → xs ++ ys ≡ xs ++ zs → ys ≡ zs
 cancel [] ys zs e = e
 cancel (x ∷ xs) ys zs e = cancel xs ys zs (cc)
 
-text-stable : (v : Verdict) (xs ys : List ℕ) → verdictText v ++ xs ≡ verdictText stable ++ ys → v ≡ stable
+-- the second letter of the word tells the verdict
+letter : (k : ℕ) (xs ys : List ℕ) → xs ≡ ys → getD ys 1 0 ≡ k → getD xs 1 0 ≡ k
+letter k xs ys e q = ap (λ l. getD l 1 0) e ∙ q
+
+word-stable : (v : Verdict) (xs ys : List ℕ) → verdictText v ++ xs ≡ stableWord ++ ys → v ≡ stable
 unfolding verdictText
-text-stable (notModel k) xs ys q = let z : _≡_ {A = ℕ} 110 115 = ap (λ (l : List ℕ). getD l 1 0) q in absurd (omega arith)
-text-stable (residual a) xs ys q = let z : _≡_ {A = ℕ} 114 115 = ap (λ (l : List ℕ). getD l 1 0) q in absurd (omega arith)
-text-stable stable xs ys q = refl
+word-stable (notModel k) xs ys e = let z : _≡_ {A = ℕ} 110 115 = letter 115 _ _ e refl in absurd (omega arith)
+word-stable (residual a) xs ys e = let z : _≡_ {A = ℕ} 114 115 = letter 115 _ _ e refl in absurd (omega arith)
+word-stable stable xs ys e = refl
 
-line-parts : (i : ℕ) (v : Verdict) (n : ℕ) → verdictLine i v n ≡ decimal i ++ (verdictText v ++ (spaced (n ∷ []) ++ (10 ∷ [])))
-unfolding verdictLine
-line-parts i v n = append-assoc (decimal i ++ verdictText v) (spaced (n ∷ [])) (10 ∷ []) ∙ append-assoc (decimal i) (verdictText v) (spaced (n ∷ []) ++ (10 ∷ []))
+word-not-model : (v : Verdict) (xs ys : List ℕ) → verdictText v ++ xs ≡ notModelWord ++ ys → (k : ℕ) × (v ≡ notModel k)
+unfolding verdictText
+word-not-model (notModel k) xs ys e = (k, refl)
+word-not-model (residual a) xs ys e = let z : _≡_ {A = ℕ} 114 110 = letter 110 _ _ e refl in absurd (omega arith)
+word-not-model stable xs ys e = let z : _≡_ {A = ℕ} 115 110 = letter 110 _ _ e refl in absurd (omega arith)
 
-only-stable : (i : ℕ) (v : Verdict) (n m : ℕ) → verdictLine i v n ≡ verdictLine i stable m → v ≡ stable
-only-stable i v n m e = text-stable v (spaced (n ∷ []) ++ (10 ∷ [])) (spaced (m ∷ []) ++ (10 ∷ [])) (cancel (decimal i) _ _ (sym (line-parts i v n) ∙ e ∙ line-parts i stable m))
+word-residual : (v : Verdict) (xs ys : List ℕ) → verdictText v ++ xs ≡ residualWord ++ ys → (a : ℕ) × (v ≡ residual a)
+unfolding verdictText
+word-residual (notModel k) xs ys e = let z : _≡_ {A = ℕ} 110 114 = letter 114 _ _ e refl in absurd (omega arith)
+word-residual (residual a) xs ys e = (a, refl)
+word-residual stable xs ys e = let z : _≡_ {A = ℕ} 115 114 = letter 114 _ _ e refl in absurd (omega arith)
 
-pub says-stable : (f : TheoryFile) (i : ℕ) (c line : List ℕ) → LineTells f i c line → ((m : ℕ) × (line ≡ verdictLine i stable m)) ↔ Stable (λ a. among a c) (ofList (theory f))
-says-stable f i c line w = (
-  λ z. w .decides .stable-model .0 (only-stable i (w .verdict) (w .gone-over) (z .0) (sym (w .says) ∙ z .1)),
-  λ x. (w .gone-over, w .says ∙ ap (λ v. verdictLine i v (w .gone-over)) (w .decides .stable-model .1 x)),
-)
+module _ (f : TheoryFile) (i : ℕ) (c line : List ℕ) (w : LineTells f i c line) where
+  -- what stands after the verdict
+  abbrev end : List ℕ
+  end = spaced (w .gone-over ∷ []) ++ (10 ∷ [])
+
+  parts : line ≡ decimal i ++ (verdictText (w .verdict) ++ end)
+  unfolding verdictLine
+  parts =
+      w .says ∙ append-assoc (decimal i ++ verdictText (w .verdict)) (spaced (w .gone-over ∷ [])) (10 ∷ []) ∙ append-assoc (decimal i) (verdictText (w .verdict)) end
+
+  -- the line goes on with the word of its verdict
+  said : (word : List ℕ) → Says i word line → (rest : List ℕ) × (verdictText (w .verdict) ++ end ≡ word ++ rest)
+  said word z = (z .0, cancel (decimal i) _ _ (sym parts ∙ z .1))
+
+  says : (word rest : List ℕ) → verdictText (w .verdict) ≡ word ++ rest → Says i word line
+  says word rest e = (rest ++ end, parts ∙ ap (λ l. decimal i ++ (l ++ end)) e ∙ ap (λ l. decimal i ++ l) (append-assoc word rest end))
+
+  pub word-tells : WordTells f i c line
+  unfolding verdictText
+  word-tells =
+      record {
+        stable = (
+          λ z. let x = said stableWord z in w .decides .stable-model .0 (word-stable (w .verdict) end (x .0) (x .1)),
+          λ x. says stableWord [] (ap verdictText (w .decides .stable-model .1 x)),
+        );
+        not-model = (
+          λ z. let x = said notModelWord z in w .decides .not-model .0 (word-not-model (w .verdict) end (x .0) (x .1)),
+          λ x. let k = w .decides .not-model .1 x in says notModelWord (spaced (k .0 ∷ [])) (ap verdictText (k .1)),
+        );
+        residual = (
+          λ z. let x = said residualWord z in w .decides .model-not-stable .0 (word-residual (w .verdict) end (x .0) (x .1)),
+          λ x. let a = w .decides .model-not-stable .1 x in says residualWord (spaced (a .0 ∷ [])) (ap verdictText (a .1)),
+        );
+      }

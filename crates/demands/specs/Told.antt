@@ -2,9 +2,13 @@
 -- Assumes nothing.
 use Prim.Native.Nat.{ℕ, _<_, _≤_}
 use mathlib.Core.Path.{_≡_}
-use mathlib.Core.Logic.{_⊎_}
+use mathlib.Core.Logic.{_⊎_, _↔_}
+use mathlib.Core.Bool.{true, false}
 use mathlib.Core.List.{List, [], _++_}
 use lib.ListN.{length, getD, take}
+use Rattle.formula.specs.Formula.{ofList}
+use Rattle.formula.specs.Satisfaction.{all}
+use Rattle.formula.specs.Stable.{Stable}
 use Rattle.theory.specs.declared.Refusal.{Refusal}
 use Rattle.theory.specs.declared.Refusal.the-variants.{PastLimit, ShortBuffer, UnsupportedRoot, UnsupportedBody, PositiveCycle}
 use Rattle.record.specs.File.{refused, theoryFile}
@@ -18,7 +22,8 @@ use Rattle.plan.specs.declared.Planning.the-variants as plan
 use Rattle.kept.specs.Verdict.{Verdict}
 use Rattle.kept.specs.Layout.{flat}
 use Rattle.kept.specs.Decides.{Decides}
-use Rattle.text.specs.Lines.{theoryLine, ranksLine, verdictLine, refusedLine}
+use Rattle.text.specs.Decimal.{decimal}
+use Rattle.text.specs.Lines.{stableWord, notModelWord, residualWord, theoryLine, ranksLine, verdictLine, refusedLine}
 use Rattle.run.specs.Text.{textOf}
 use Rattle.run.specs.Planned.{planMade}
 
@@ -34,6 +39,16 @@ pub record LineTells (f : TheoryFile) (i : ℕ) (c line : List ℕ) : Type 0 whe
   pub gone-over : ℕ
   pub says : line ≡ verdictLine i verdict gone-over
   pub decides : Decides (f .roots) (theory f) (λ a. among a c) verdict
+
+-- in its bytes: after the number i the line goes on with this word
+abbrev pub Says : ℕ → List ℕ → List ℕ → Type 0
+Says i word line = (rest : List ℕ) × (line ≡ decimal i ++ (word ++ rest))
+
+-- the word of the line says what the candidate is
+pub record WordTells (f : TheoryFile) (i : ℕ) (c line : List ℕ) : Type 0 where
+  pub stable : Says i stableWord line ↔ Stable (λ a. among a c) (ofList (theory f))
+  pub not-model : Says i notModelWord line ↔ (all (λ a. among a c) (ofList (theory f)) ≡ false)
+  pub residual : Says i residualWord line ↔ ((all (λ a. among a c) (ofList (theory f)) ≡ true) × (Stable (λ a. among a c) (ofList (theory f)) → ⊥))
 
 -- the number of a plan's refusal within a run: 10, 11 or 12
 abbrev pub Unplannable : Refusal → Type 0
