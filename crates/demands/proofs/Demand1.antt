@@ -1,13 +1,13 @@
 -- DEMAND 1: "An answer or one numbered refusal comes back from every public call, for all bytes, tables and numbers lent to it; a refusal alters nothing lent, but for the work area and, after refusal 17, the kept books, which are zeroed."
 -- That every call answers and ends is its contract: none has a `requires`, and each equates answer and lent words with the outcomes named here.
 -- Assumes nothing.
-use Prim.Native.Nat.{ℕ, _+_, _*_, _<_, _≤_}
+use Prim.Native.Nat.{ℕ, _+_, _<_, _≤_}
 use native.Mathlib.Omega.{arith}
-use mathlib.Core.Path.{_≡_, refl, ap, _∙_}
+use mathlib.Core.Path.{_≡_, refl, sym, ap, _∙_}
 use mathlib.Core.Logic.{⊎-elim, _↔_}
 use mathlib.Core.Bool.{Bool, true, false, cond}
 use mathlib.Core.List.{List, [], _∷_, _++_}
-use lib.Dec.{ltb, leb}
+use lib.Dec.{leb}
 use lib.ListN.{length, take, drop, replicate, length-replicate}
 use lib.Seq.{take-at, drop-at}
 use borrow.Author.Tests.{leb-true, leb-false}
@@ -22,9 +22,9 @@ use Rattle.record.specs.File.{File, sound, refused}
 use Rattle.record.specs.declared.Summary.{Summary}
 use Rattle.encoding.specs.Sound.{Below}
 use Rattle.load.specs.Tables as load
-use Rattle.load.specs.Loading as loading
 use Rattle.load.specs.Loading.{loading, loadingSound}
 use Rattle.load.specs.declared.Loaded.the-variants as loads
+use Rattle.load.proofs.Loads as ways
 use Rattle.plan.specs.Outcome.{planned, planOutcome, certifyOutcome}
 use Rattle.plan.specs.declared.Planning.the-variants as answers
 use Rattle.kept.specs.Tables.{Tables}
@@ -69,19 +69,15 @@ numbered (BadEntry k) = record { number = 17; place = k; more = []; tells = refl
 -- ---- load
 
 sound-leaves : (s : Summary) (t : Contents) (b : load.Tables) (r : Refusal) → loadingSound s t b .answer ≡ loads.Refused r → loadingSound s t b .left ≡ b
-unfolding loadingSound
-sound-leaves s t b r = go (ltb (length (b .nodes)) (3 * s .counts .nodes)) (ltb (length (b .operands)) (s .counts .operands)) (ltb (length (b .roots)) (s .counts .roots))
+sound-leaves s t b r e = go (ways.loads s t b)
   where
-    whole : Bool → Bool → Bool → loading.Outcome
-    whole x y z =
-        cond x (loading.outcome (loads.Refused (ShortBuffer 1)) b)
-        (cond y (loading.outcome (loads.Refused (ShortBuffer 2)) b) (cond z (loading.outcome (loads.Refused (ShortBuffer 3)) b) (loading.outcome (loads.Sound s) (load.holding t b))))
-
-    go : (x y z : Bool) → whole x y z .answer ≡ loads.Refused r → whole x y z .left ≡ b
-    go true y z e = refl
-    go false true z e = refl
-    go false false true e = refl
-    go false false false e = let n : _≡_ {A = ℕ} 0 1 = cc in absurd (omega arith)
+    go : ways.Loads s t b → loadingSound s t b .left ≡ b
+    go (ways.nodes-short n q) = ap (λ o. o .left) q
+    go (ways.operands-short n o q) = ap (λ o. o .left) q
+    go (ways.roots-short n o m q) = ap (λ o. o .left) q
+    go (ways.all-long w q) =
+        let f : loads.Sound s ≡ loads.Refused r = sym (ap (λ o. o .answer) q) ∙ e in
+        let z : _≡_ {A = ℕ} 0 1 = cc in absurd (omega arith)
 
 load-leaves : (f : File) (b : load.Tables) (r : Refusal) → loading f b .answer ≡ loads.Refused r → loading f b .left ≡ b
 unfolding loading

@@ -3,13 +3,12 @@
 use Prim.Native.Nat.{ℕ, suc, _+_, _*_, _<_, _≤_}
 use native.Mathlib.Omega.{arith}
 use mathlib.Core.Path.{_≡_, refl, sym, ap, subst, _∙_}
-use mathlib.Core.Logic.{_⊎_, inl, inr, ⊎-elim}
-use mathlib.Core.Bool.{Bool, true, false, cond, false≢true}
+use mathlib.Core.Logic.{_⊎_, ⊎-elim}
+use mathlib.Core.Bool.{true, false≢true}
 use mathlib.Core.List.{List, [], _∷_, _++_, map, append-assoc}
 use mathlib.Core.Option.{none}
-use lib.Dec.{ltb}
 use lib.ListN.{length, getD, take, drop, replicate, length-replicate, length-append, length-drop}
-use borrow.Author.Tests.{le-ltb, ltb-true, ltb-false}
+use borrow.Author.Tests.{le-ltb}
 use Rattle.base.specs.Tests.{below-or}
 use Rattle.base.specs.Front.{front}
 use Rattle.formula.specs.Satisfaction.{Interpretation}
@@ -37,6 +36,7 @@ use Rattle.load.specs.Loading as loading
 use Rattle.load.specs.Loading.{loading, loadingSound}
 use Rattle.load.specs.declared.Loaded as loaded
 use Rattle.load.specs.declared.Loaded.the-variants as loads
+use Rattle.load.proofs.Loads as ways
 use Rattle.load.proofs.Admitted.{loaded-sound, loaded-plannable}
 use Rattle.load.proofs.Theory.{loaded-theory}
 use Rattle.readers.specs.Laid.{laid, laidOver}
@@ -89,29 +89,6 @@ plan-long t nodes operands roots ps rs us ws = go (planJudged t nodes operands r
         × (length us ≤ length (planned t nodes operands roots ps rs us ws a (ranksOf t nodes operands roots (derived t nodes operands roots)) .readers))
     go admission.Admitted = (front-long _ ps, built-long t nodes operands roots _ _ us)
     go (admission.Refused r) = (omega arith, omega arith)
-
--- ---- loading
-
--- a sound file that is not loaded names the lowest table that it does not fit into
-module _ (s : Summary) (t : Contents) (b : tables.Tables) where
-  abbrev Short : Refusal → Type 0
-  Short r =
-      ((r ≡ ShortBuffer 1) × (length (b .nodes) < 3 * s .counts .nodes))
-      ⊎ (((r ≡ ShortBuffer 2) × (3 * s .counts .nodes ≤ length (b .nodes)) × (length (b .operands) < s .counts .operands))
-      ⊎ ((r ≡ ShortBuffer 3) × (3 * s .counts .nodes ≤ length (b .nodes)) × (s .counts .operands ≤ length (b .operands)) × (length (b .roots) < s .counts .roots)))
-
-  load-short : (r : Refusal) → loadingSound s t b .answer ≡ loads.Refused r → Short r
-  unfolding loadingSound
-  load-short r =
-      go (ltb (length (b .nodes)) (3 * s .counts .nodes)) refl (ltb (length (b .operands)) (s .counts .operands)) refl (ltb (length (b .roots)) (s .counts .roots)) refl
-    where
-      go : (x : Bool) → ltb (length (b .nodes)) (3 * s .counts .nodes) ≡ x → (y : Bool) → ltb (length (b .operands)) (s .counts .operands) ≡ y → (z : Bool) → ltb (length (b .roots)) (s .counts .roots) ≡ z
-          → cond x (loading.outcome (loads.Refused (ShortBuffer 1)) b) (cond y (loading.outcome (loads.Refused (ShortBuffer 2)) b) (cond z (loading.outcome (loads.Refused (ShortBuffer 3)) b) (loading.outcome (loads.Sound s) (tables.holding t b)))) .answer ≡ loads.Refused r
-          → Short r
-      go true k y l z m e = inl (cc, ltb-true _ _ k)
-      go false k true l z m e = inr (inl (cc, ltb-false _ _ k, ltb-true _ _ l))
-      go false k false l true m e = inr (inr (cc, ltb-false _ _ k, ltb-false _ _ l, ltb-true _ _ m))
-      go false k false l false m e = let n : _≡_ {A = ℕ} 0 1 = cc in absurd (omega arith)
 
 -- ---- a file that encodes a sound theory
 
@@ -277,18 +254,22 @@ module _ (file : List ℕ) (f : TheoryFile) (enc : Encodes file f) where
   by-load few (loads.Sound x) l =
       let same : s ≡ x = loaded-own (theoryFile file) s x ownTables sounds l .0 in
       by-plan few (l ∙ ap loads.Sound (sym same)) (planMade file s .answer) refl
-  by-load few (loads.Refused r) l = go (load-short s t ownTables r (sym (ap (λ g. loading g ownTables .answer) holds) ∙ l))
+  by-load few (loads.Refused r) l = go (ways.loads s t ownTables)
     where
-      text : (k : ℕ) → r ≡ ShortBuffer k → textOf file ≡ refusedLine (ShortBuffer k)
-      text k q = sym (load-refused (theoryFile file) s sounds few _ _ refl r l ∙ file-sound file (enc .short) s sounds) ∙ ap refusedLine q
+      text : (k : ℕ) → loadingSound s t ownTables ≡ loading.outcome (loads.Refused (ShortBuffer k)) ownTables → textOf file ≡ refusedLine (ShortBuffer k)
+      text k q =
+          let same : r ≡ ShortBuffer k = let f : loads.Refused r ≡ loads.Refused (ShortBuffer k) = sym l ∙ ap (λ g. loading g ownTables .answer) holds ∙ ap (λ o. o .answer) q in cc in
+          sym (load-refused (theoryFile file) s sounds few _ _ refl r l ∙ file-sound file (enc .short) s sounds) ∙ ap refusedLine same
 
-      go : Short s t ownTables r → Told file
-      go (inl w) = many-nodes f enc few (omega (arith, w .1, length-replicate {A = ℕ} 3072 0)) (text 1 (w .0))
-      go (inr (inl w)) =
-          many-operands f enc few (omega (arith, w .1, length-replicate {A = ℕ} 3072 0)) (omega (arith, w .2, length-replicate {A = ℕ} 1024 0)) (text 2 (w .0))
-      go (inr (inr w)) =
-          many-roots f enc few (omega (arith, w .1, length-replicate {A = ℕ} 3072 0)) (omega (arith, w .2, length-replicate {A = ℕ} 1024 0)) (omega (arith, w .3, length-replicate {A = ℕ} 512 0))
-          (text 3 (w .0))
+      go : ways.Loads s t ownTables → Told file
+      go (ways.nodes-short n q) = many-nodes f enc few (omega (arith, n, length-replicate {A = ℕ} 3072 0)) (text 1 q)
+      go (ways.operands-short n o q) =
+          many-operands f enc few (omega (arith, n, length-replicate {A = ℕ} 3072 0)) (omega (arith, o, length-replicate {A = ℕ} 1024 0)) (text 2 q)
+      go (ways.roots-short n o m q) =
+          many-roots f enc few (omega (arith, n, length-replicate {A = ℕ} 3072 0)) (omega (arith, o, length-replicate {A = ℕ} 1024 0)) (omega (arith, m, length-replicate {A = ℕ} 512 0)) (text 3 q)
+      go (ways.all-long w q) =
+          let f : loads.Refused r ≡ loads.Sound s = sym l ∙ ap (λ g. loading g ownTables .answer) holds ∙ ap (λ o. o .answer) q in
+          let z : _≡_ {A = ℕ} 0 1 = cc in absurd (omega arith)
 
   encoded-told : Told file
   unfolding summaryOf countsOf

@@ -4,9 +4,10 @@ use Prim.Native.Nat.{ℕ, zero, suc, _<_}
 use native.Mathlib.Omega.{arith}
 use mathlib.Core.Path.{_≡_, refl, ap, sym, _∙_}
 use mathlib.Core.Logic.{_↔_}
-use mathlib.Core.Bool.{Bool, true, false, true≢false}
+use mathlib.Core.Bool.{true, false, true≢false, false≢true}
 use mathlib.Core.List.{List, [], _∷_, map}
 use lib.ListN.{length, getD, length-map}
+use Rattle.base.specs.Tests.{same-test}
 use Rattle.formula.specs.Formula.{Formula, falsum, ofList}
 use Rattle.formula.specs.Satisfaction.{Interpretation, sat, all}
 use Rattle.formula.specs.Passes.{Within}
@@ -33,10 +34,6 @@ getD-mapped : (f : ℕ → Formula) (xs : List ℕ) (i : ℕ) → i < length xs 
 getD-mapped f [] i l = absurd (omega arith)
 getD-mapped f (x ∷ xs) zero l = refl
 getD-mapped f (x ∷ xs) (suc i) l = getD-mapped f xs i (omega arith)
-
-not-true-by : (b : Bool) → (b ≡ true → ⊥) → b ≡ false
-not-true-by true h = absurd (h refl)
-not-true-by false h = refl
 
 module _ (T : Tables) (plan : PlannedTables T) (I : Interpretation) where
   abbrev f : ℕ → Formula
@@ -99,7 +96,7 @@ module _ (T : Tables) (plan : PlannedTables T) (I : Interpretation) where
     no-model : (k : ℕ) → Right T I (notModel k) → all I (ofList roots) ≡ false
     no-model k r =
         let x = r .names-root k refl in
-        not-true-by (all I (ofList roots)) (λ e. true≢false (sym (model-true T plan I e (x .0) (x .1 .within)) ∙ x .1 .untrue))
+        same-test (all I (ofList roots)) false (λ e. absurd (true≢false (sym (model-true T plan I e (x .0) (x .1 .within)) ∙ x .1 .untrue))) (λ e. absurd (false≢true e))
 
     names-root : (v : Verdict) → Right T I v → (k : ℕ) → (v ≡ notModel k) ↔ ((r : ℕ) × FirstFalsified I roots r × (getD (rootList T plan) r 0 ≡ k))
     names-root v r k = (

@@ -1,17 +1,15 @@
 -- What `load` writes is admitted by `theory` and within the limits: planning a loaded file refuses none of 3, 1, 6, 4, 5, 7.
 -- Assumes nothing.
-use Prim.Native.Nat.{ℕ, _*_}
+use Prim.Native.Nat.{ℕ}
 use native.Mathlib.Omega.{arith}
-use mathlib.Core.Path.{_≡_, refl, ap, _∙_}
-use mathlib.Core.Bool.{Bool, true, false, cond}
+use mathlib.Core.Path.{_≡_, refl, sym, ap, _∙_}
 use mathlib.Core.List.{List, _++_}
-use lib.Dec.{ltb}
 use lib.ListN.{length, length-append}
 use Rattle.theory.specs.Admission.{spanStart, admission}
 use Rattle.theory.specs.Limits.{limitsOf}
 use Rattle.theory.specs.LimitsLaws.{limited-admitted}
 use Rattle.theory.specs.declared.Admission.the-variants as admission
-use Rattle.theory.specs.declared.Refusal.the-variants.{ShortBuffer}
+use Rattle.theory.specs.declared.Refusal.{Refusal}
 use Rattle.theory.proofs.Admitted.{formed-admitted}
 use Rattle.record.specs.Mark.{markAt}
 use Rattle.record.specs.Layout.{recordEnd, valueCount, valuesOf}
@@ -29,6 +27,7 @@ use Rattle.record.proofs.Judging.{read-keeps, sound-limited}
 use Rattle.load.specs.Tables.{Tables, over, holding}
 use Rattle.load.specs.Loading.{loading, loadingSound, outcome}
 use Rattle.load.specs.declared.Loaded.the-variants.{Sound, Refused}
+use Rattle.load.proofs.Loads.{Loads, nodes-short, operands-short, roots-short, all-long, loads}
 use Rattle.load.proofs.Laws.{sizes}
 use Rattle.load.proofs.Formed.{Formed, record-formed, formed-extends}
 
@@ -97,16 +96,16 @@ pub record Plannable (s : Summary) (b : Tables) : Type 0 where
   pub admitted : admission (s .counts) (b .nodes) (b .operands) (b .roots) ≡ admission.Admitted
 
 pub loaded-sound : (s x : Summary) (t : Contents) (b : Tables) → loadingSound x t b .answer ≡ Sound s → (x ≡ s) × (loadingSound x t b .left ≡ holding t b)
-unfolding loadingSound
-loaded-sound s x t b = go (ltb (length (b .nodes)) (3 * x .counts .nodes)) (ltb (length (b .operands)) (x .counts .operands)) (ltb (length (b .roots)) (x .counts .roots))
+loaded-sound s x t b e = go (loads x t b)
   where
-    go : (n o r : Bool)
-        → cond n (outcome (Refused (ShortBuffer 1)) b) (cond o (outcome (Refused (ShortBuffer 2)) b) (cond r (outcome (Refused (ShortBuffer 3)) b) (outcome (Sound x) (holding t b)))) .answer ≡ Sound s
-        → (x ≡ s) × (cond n (outcome (Refused (ShortBuffer 1)) b) (cond o (outcome (Refused (ShortBuffer 2)) b) (cond r (outcome (Refused (ShortBuffer 3)) b) (outcome (Sound x) (holding t b)))) .left ≡ holding t b)
-    go true o r q = let z : _≡_ {A = ℕ} 0 1 = cc in absurd (omega arith)
-    go false true r q = let z : _≡_ {A = ℕ} 0 1 = cc in absurd (omega arith)
-    go false false true q = let z : _≡_ {A = ℕ} 0 1 = cc in absurd (omega arith)
-    go false false false q = (cc, refl)
+    no : (r : Refusal) → loadingSound x t b ≡ outcome (Refused r) b → ⊥
+    no r q = let f : Refused r ≡ Sound s = sym (ap (λ o. o .answer) q) ∙ e in let z : _≡_ {A = ℕ} 0 1 = cc in omega arith
+
+    go : Loads x t b → (x ≡ s) × (loadingSound x t b .left ≡ holding t b)
+    go (nodes-short n q) = absurd (no _ q)
+    go (operands-short n o q) = absurd (no _ q)
+    go (roots-short n o r q) = absurd (no _ q)
+    go (all-long l q) = let f : Sound x ≡ Sound s = sym (ap (λ o. o .answer) q) ∙ e in (cc, ap (λ o. o .left) q)
 
 holding-plannable : (file : List ℕ) (s x : Summary) (t : Contents) (b left : Tables) → theoryFile file ≡ sound x t → (x ≡ s) × (left ≡ holding t b) → Plannable s left
 unfolding over

@@ -2,6 +2,7 @@ pub mod Laws
 pub mod Storing
 pub mod Outcomes
 pub mod Sets
+pub mod Loads
 pub mod Formed
 pub mod Admitted
 pub mod Theory

@@ -1,13 +1,11 @@
 -- What the text is at each exit of a run.
 -- Assumes nothing.
-use Prim.Native.Nat.{ℕ, _*_, _<_, _≤_}
+use Prim.Native.Nat.{ℕ, _<_, _≤_}
 use native.Mathlib.Omega.{arith}
-use mathlib.Core.Path.{_≡_, refl, sym, ap, _∙_}
-use mathlib.Core.Bool.{Bool, true, false, cond}
+use mathlib.Core.Path.{_≡_, sym, ap, _∙_}
 use mathlib.Core.List.{List, _++_}
-use lib.Dec.{ltb}
 use lib.ListN.{length, take, replicate, length-append, length-take}
-use borrow.Author.Tests.{ltb-false, lt-ltb, le-ltb}
+use borrow.Author.Tests.{lt-ltb, le-ltb}
 use Rattle.theory.specs.Limits.{Lent}
 use Rattle.theory.specs.declared.Counts.{Counts}
 use Rattle.theory.specs.declared.Refusal.{Refusal}
@@ -22,6 +20,8 @@ use Rattle.load.specs.Loading.{loading, loadingSound}
 use Rattle.load.specs.Tables as tables
 use Rattle.load.specs.declared.Loaded as loaded
 use Rattle.load.specs.declared.Loaded.the-variants as loads
+use Rattle.load.proofs.Loads as ways
+use Rattle.load.proofs.Admitted.{loaded-sound}
 use Rattle.plan.specs.Outcome as planning
 use Rattle.plan.specs.declared.Planning as plans
 use Rattle.plan.specs.declared.Planning.the-variants as planned
@@ -53,16 +53,16 @@ module _ (t : Counts) (nodes operands roots : List ℕ) (cs : List (List ℕ)) (
 -- only a sound file is loaded: its own summary is told, and the tables are long enough
 loaded-of : (s s' : Summary) (t : Contents) (b : tables.Tables) → loadingSound s t b .answer ≡ loads.Sound s'
     → (s ≡ s') × Lent (s .counts) (length (b .nodes)) (length (b .operands)) (length (b .roots))
-unfolding loadingSound
-loaded-of s s' t b = go (ltb (length (b .nodes)) (3 * s .counts .nodes)) refl (ltb (length (b .operands)) (s .counts .operands)) refl (ltb (length (b .roots)) (s .counts .roots)) refl
+loaded-of s s' t b e = go (ways.loads s t b)
   where
-    go : (x : Bool) → ltb (length (b .nodes)) (3 * s .counts .nodes) ≡ x → (y : Bool) → ltb (length (b .operands)) (s .counts .operands) ≡ y → (z : Bool) → ltb (length (b .roots)) (s .counts .roots) ≡ z
-        → cond x (loading.outcome (loads.Refused (ShortBuffer 1)) b) (cond y (loading.outcome (loads.Refused (ShortBuffer 2)) b) (cond z (loading.outcome (loads.Refused (ShortBuffer 3)) b) (loading.outcome (loads.Sound s) (tables.holding t b)))) .answer ≡ loads.Sound s'
-        → (s ≡ s') × Lent (s .counts) (length (b .nodes)) (length (b .operands)) (length (b .roots))
-    go true k y l z m e = let n : _≡_ {A = ℕ} 0 1 = cc in absurd (omega arith)
-    go false k true l z m e = let n : _≡_ {A = ℕ} 0 1 = cc in absurd (omega arith)
-    go false k false l true m e = let n : _≡_ {A = ℕ} 0 1 = cc in absurd (omega arith)
-    go false k false l false m e = (cc, record { nodes-long = ltb-false _ _ k; operands-long = ltb-false _ _ l; roots-long = ltb-false _ _ m })
+    no : (r : Refusal) → loadingSound s t b ≡ loading.outcome (loads.Refused r) b → ⊥
+    no r q = let f : loads.Refused r ≡ loads.Sound s' = sym (ap (λ o. o .answer) q) ∙ e in let z : _≡_ {A = ℕ} 0 1 = cc in omega arith
+
+    go : ways.Loads s t b → (s ≡ s') × Lent (s .counts) (length (b .nodes)) (length (b .operands)) (length (b .roots))
+    go (ways.nodes-short n q) = absurd (no _ q)
+    go (ways.operands-short n o q) = absurd (no _ q)
+    go (ways.roots-short n o r q) = absurd (no _ q)
+    go (ways.all-long l q) = (loaded-sound s' s t b e .0, l)
 
 pub loaded-own : (f : File) (s s' : Summary) (b : tables.Tables) → verdict f ≡ judgment.Sound s → loading f b .answer ≡ loads.Sound s'
     → (s ≡ s') × Lent (s .counts) (length (b .nodes)) (length (b .operands)) (length (b .roots))
