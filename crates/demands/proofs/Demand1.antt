@@ -132,7 +132,7 @@ refusal-long r = omega arith
 text-long : (file : List ℕ) → told.Told file → 0 < length (textOf file)
 unfolding theoryLine
 text-long file (told.too-long l e) = rw e (refusal-long _)
-text-long file (told.unsound r l n q e) = rw e (refusal-long r)
+text-long file (told.unsound r l n q m e) = rw e (refusal-long r)
 text-long file (told.many-atoms f h a e) = rw e (refusal-long _)
 text-long file (told.many-nodes f h a b e) = rw e (refusal-long _)
 text-long file (told.many-operands f h a b d e) = rw e (refusal-long _)

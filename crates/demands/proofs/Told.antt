@@ -30,6 +30,7 @@ use Rattle.encoding.specs.Theory.{theory}
 use Rattle.encoding.proofs.Encoding.{read-encoded, sound-encoded}
 use Rattle.encoding.proofs.Theory.{roots-held, root-formulas-held}
 use Rattle.load.specs.Candidate.{among}
+use Rattle.record.proofs.Refused.{file-refusal}
 use Rattle.load.specs.Tables as tables
 use Rattle.load.specs.Tables.{over}
 use Rattle.load.specs.Loading as loading
@@ -290,7 +291,7 @@ module _ (file : List ℕ) (bytes : Below 256 file) (short : length file ≤ 655
   by-file (refused r) e =
       unsound r short
       (λ f sound-f q. let z : sound (summaryOf f) (contentsOf f) ≡ refused r = sym (read-encoded f sound-f) ∙ ap theoryFile q ∙ e in let n : _≡_ {A = ℕ} 0 1 = cc in omega arith)
-      e (sym (file-refused file short r (ap verdict e)))
+      e (file-refusal r file e) (sym (file-refused file short r (ap verdict e)))
 
 -- FROM BYTES TO FERRARIS
 pub told : (file : List ℕ) → Below 256 file → Told file

@@ -6,4 +6,5 @@ pub mod Passed
 pub mod Record
 pub mod Contents
 pub mod File
+pub mod FileRefusal
 pub mod Bounds
