@@ -28,7 +28,7 @@ use Rattle.text.specs.Lines.{stableWord, notModelWord, residualWord, theoryLine
 use Rattle.run.specs.Text.{textOf}
 use Rattle.run.specs.Planned.{planMade}
 
--- the file is the encoding of f, a sound theory with its candidates, and short enough for a run
+-- the file is the encoding of f, a sound theory with its candidates, and short enough for a run; no two have the same bytes (`encoding/proofs/Encoding.encoded-only`)
 pub record Encodes (file : List ℕ) (f : TheoryFile) : Type 0 where
   pub short : length file ≤ 65536
   pub sound : Sound f

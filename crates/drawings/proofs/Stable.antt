@@ -12,9 +12,8 @@ use Rattle.formula.specs.Root.{theory}
 use Rattle.formula.proofs.Cases.{pair, among}
 use Rattle.formula.proofs.Examples.{chosen-1-unstable, chosen-01-stable, chosen-none-stable, doubled-none-stable, doubled-0-stable, empty-none-stable, empty-0-unstable, turning-none-stable, turning-all-unstable, implied-2-stable}
 use Rattle.theory.specs.Node.{nodeAt, span}
-use Rattle.theory.specs.NodeFormula.{nodeFormula, nodeFormulas, formula}
+use Rattle.theory.specs.NodeFormula.{nodeFormula, nodeFormulas, formula, theoryOf}
 use Rattle.theory.specs.declared.Counts.{Counts}
-use Rattle.kept.specs.Decides.{theoryOf}
 use Rattle.drawings.specs.Standing.{Standing, stable, unstable, noModel, Stands}
 use Rattle.drawings.specs.Tables.{counts, exampleNodes, exampleOperands, exampleRoots, fiveNodes, fiveRoots, sixNodes, sixRoots, sevenNodes, sevenRoots}
 

@@ -1,4 +1,4 @@
--- The form of a theory file: reading the bytes of sound values gives these values, and every sound file is the bytes of what was read.
+-- The form of a theory file: reading the bytes of sound values gives these values, every sound file is the bytes of what was read, and no two sound values have the same bytes.
 -- Assumes nothing.
 use Prim.Native.Nat.{ℕ, zero, suc, _+_, _≤_}
 use native.Mathlib.Nat.{zero-add}
@@ -29,6 +29,7 @@ use Rattle.encoding.proofs.Form.{formOf}
 use Rattle.encoding.proofs.Rest.{restBytes, SoundRest, outcome, same}
 use Rattle.encoding.proofs.Reading.{record-read, rest-read}
 use Rattle.encoding.proofs.Writing.{Rest, counts-are, left-is, turn, rest-written}
+use Rattle.encoding.proofs.Values.{nodes-only}
 
 -- the counts after the first record
 abbrev opening : ℕ → ℕ → Counts
@@ -128,3 +129,19 @@ module _ (file : List ℕ) (bytes : Below 256 file) (s : Summary) (t : Contents)
       let f = v .0 in
       let k : sound (summaryOf f) (contentsOf f) ≡ sound s t = sym (read-encoded f (v .1)) ∙ ap theoryFile (v .2) ∙ e in
       (f, v .1, v .2, cc, cc)
+
+-- ---- two values
+
+values-only : (f g : TheoryFile) → summaryOf f ≡ summaryOf g → contentsOf f ≡ contentsOf g → f ≡ g
+unfolding summaryOf countsOf contentsOf
+values-only f g s c =
+    let nodes : f .nodes ≡ g .nodes = nodes-only (f .nodes) (g .nodes) (ap (λ x. x .counts .nodes) s) (ap (λ x. x .nodes) c) (ap (λ x. x .operands) c) in
+    λ i. record { stamp = s i .counts .stamp; atoms = s i .counts .atoms; nodes = nodes i; roots = c i .roots; candidates = c i .candidates }
+
+-- the bytes of sound values are those of no others
+pub encoded-only : (f g : TheoryFile) → Sound f → Sound g → encoded f ≡ encoded g → f ≡ g
+encoded-only f g p q e =
+    let k : sound (summaryOf f) (contentsOf f) ≡ sound (summaryOf g) (contentsOf g) = sym (read-encoded f p) ∙ ap theoryFile e ∙ read-encoded g q in
+    let summary : summaryOf f ≡ summaryOf g = cc in
+    let contents : contentsOf f ≡ contentsOf g = cc in
+    values-only f g summary contents

@@ -4,5 +4,6 @@ pub mod Rest
 pub mod NodeRecord
 pub mod Reading
 pub mod Writing
+pub mod Values
 pub mod Encoding
 pub mod Theory

@@ -18,7 +18,7 @@ use Rattle.formula.specs.Named as named
 use Rattle.formula.specs.Named.{FirstFalsified, LowestUnproduced}
 use Rattle.formula.proofs.Fages.{fages}
 use Rattle.formula.proofs.Producers.{unproduced-by, unsupported-by}
-use Rattle.theory.specs.NodeFormula.{formula}
+use Rattle.theory.specs.NodeFormula.{formula, theoryOf}
 use Rattle.compile.specs.Roots.{rootsOf}
 use Rattle.kept.specs.Tables.{Tables, atomCount, rootCount, rootAt}
 use Rattle.kept.specs.Evaluation.{truth}
@@ -28,7 +28,7 @@ use Rattle.kept.specs.VerdictLaws.{verdict-right}
 use Rattle.kept.specs.Planned.{PlannedTables}
 use Rattle.kept.specs.PlannedLaws.{rootList, length-roots, root-listed}
 use Rattle.kept.specs.StableLaws.{theory-is, formulas-are, truth-sat, unproduced-is, is-unproduced, model-true, true-model, to-supported, from-supported}
-use Rattle.kept.specs.Decides.{Decides, theoryOf, DecidesTheory}
+use Rattle.kept.specs.Decides.{Decides, DecidesTheory}
 
 getD-mapped : (f : ℕ → Formula) (xs : List ℕ) (i : ℕ) → i < length xs → getD (map f xs) i falsum ≡ f (getD xs i 0)
 getD-mapped f [] i l = absurd (omega arith)

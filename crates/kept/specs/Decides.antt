@@ -4,13 +4,13 @@ use Prim.Native.Nat.{ℕ}
 use mathlib.Core.Path.{_≡_}
 use mathlib.Core.Logic.{_↔_}
 use mathlib.Core.Bool.{true, false}
-use mathlib.Core.List.{List, map}
+use mathlib.Core.List.{List}
 use lib.ListN.{getD, take}
 use Rattle.formula.specs.Formula.{Formula, ofList}
 use Rattle.formula.specs.Satisfaction.{Interpretation, all}
 use Rattle.formula.specs.Stable.{Stable}
 use Rattle.formula.specs.Named.{FirstFalsified, LowestUnproduced}
-use Rattle.theory.specs.NodeFormula.{formula}
+use Rattle.theory.specs.NodeFormula.{theoryOf}
 use Rattle.theory.specs.declared.Counts.{Counts}
 use Rattle.kept.specs.Verdict.{Verdict, notModel, residual, stable}
 
@@ -24,10 +24,6 @@ pub record Decides (nodes : List ℕ) (roots : List Formula) (I : Interpretation
   pub names-atom : (a : ℕ) → (v ≡ residual a) ↔ ((all I (ofList roots) ≡ true) × LowestUnproduced I roots a)
   -- stable exactly if it is a stable model
   pub stable-model : (v ≡ stable) ↔ Stable I (ofList roots)
-
--- the formulas of a theory's roots, in order
-abbrev pub theoryOf : Counts → List ℕ → List ℕ → List ℕ → List Formula
-theoryOf t nodes operands roots = map (formula t nodes operands) (take (t .roots) roots)
 
 -- of the theory in these tables
 abbrev pub DecidesTheory : Counts → List ℕ → List ℕ → List ℕ → Interpretation → Verdict → Type 0

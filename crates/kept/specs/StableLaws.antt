@@ -17,7 +17,7 @@ use Rattle.formula.specs.Passes.{Within}
 use Rattle.formula.specs.Root as papers
 use Rattle.formula.specs.Support.{produces, supported, SupportedModel}
 use Rattle.formula.specs.Head.{headAtom}
-use Rattle.theory.specs.NodeFormula.{formula}
+use Rattle.theory.specs.NodeFormula.{formula, theoryOf}
 use Rattle.theory.specs.Refusals.{not-both}
 use Rattle.theory.proofs.Meaning.{truth-at}
 use Rattle.theory.specs.declared.Admission.the-variants.{Admitted}
@@ -31,7 +31,6 @@ use Rattle.compile.proofs.RootFormula.{root-formula}
 use Rattle.kept.specs.Tables.{Tables, atomCount, rootCount, rootAt, bodyAt}
 use Rattle.kept.specs.Evaluation.{truth, bodyTrue}
 use Rattle.kept.specs.Naming.{AllTrue, Unproduced, AllProduced}
-use Rattle.kept.specs.Decides.{theoryOf}
 use Rattle.kept.specs.Planned.{classesIn, producersIn, PlannedTables}
 use Rattle.kept.specs.PlannedLaws.{noProducer, rootList, Supported, length-roots, root-listed, roots-supported, well, head-is, body-is}
 

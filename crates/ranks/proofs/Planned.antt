@@ -3,20 +3,19 @@
 use Prim.Native.Nat.{ℕ, _<_}
 use native.Mathlib.Numerals.{add-one}
 use native.Mathlib.Omega.{arith}
-use mathlib.Core.Path.{_≡_, refl, sym, ap, ap₂, _∙_}
+use mathlib.Core.Path.{_≡_, refl, sym, ap, _∙_}
 use mathlib.Core.Logic.{_≢_}
 use mathlib.Core.Bool.{true}
 use mathlib.Core.List.{List, [], _∷_, map}
 use lib.ListN.{getD, take, List·getD-map}
 use lib.Seq.{getD-take, length-take-le}
 use Rattle.base.specs.Each.{Each, at-each}
-use Rattle.formula.specs.Formula.{Formula, cons, ofList}
 use Rattle.formula.specs.Class.{Class, positive, frozen, opaque, class}
 use Rattle.formula.specs.Rank.{isPositive}
-use Rattle.formula.specs.Root.{Root, rootFormula, theory}
+use Rattle.formula.specs.Root.{Root}
 use Rattle.formula.specs.Plan.{PlannedRoot, Planned}
 use Rattle.theory.specs.NodeClass.{nodeClasses}
-use Rattle.theory.specs.NodeFormula.{formula, rootFormulas}
+use Rattle.theory.specs.NodeFormula.{formula}
 use Rattle.theory.specs.WellFormed.{NodeTables, RootTable, WellFormed}
 use Rattle.theory.specs.Refusals.{not-both, none-refused}
 use Rattle.theory.proofs.Meaning.{class-at}
@@ -29,8 +28,7 @@ use Rattle.compile.specs.Roots.{rootOf, rootsOf, MadeOf, from-fact, from-rule, 
 use Rattle.compile.specs.declared.Producer.{Producer}
 use Rattle.compile.specs.declared.Produced.{Produced}
 use Rattle.compile.specs.declared.Produced.the-variants.{Nothing, Made, Refused}
-use Rattle.compile.proofs.RootFormula.{producer-bounded, root-formula}
-use Rattle.ranks.specs.Dependency as dependency
+use Rattle.compile.proofs.RootFormula.{producer-bounded}
 use Rattle.ranks.specs.Classed.{Classed}
 use Rattle.ranks.specs.RankCheck.{rankCheck}
 use Rattle.ranks.proofs.Accepted.{positive-is}
@@ -48,11 +46,6 @@ planned-list : (r : ℕ → ℕ) (f : ℕ → Root) (ks : List ℕ) → Each (λ
 planned-list r f [] h = tt
 planned-list r f (k ∷ ks) h = (h .0, planned-list r f ks (h .1))
 
-formulas-list : (f : ℕ → Root) (g : ℕ → Formula) (ks : List ℕ) → Each (λ k. rootFormula (f k) ≡ g k) ks → ofList (map rootFormula (map f ks)) ≡ ofList (map g ks)
-unfolding ofList
-formulas-list f g [] h = refl
-formulas-list f g (k ∷ ks) h = ap₂ cons (h .0) (formulas-list f g ks (h .1))
-
 module _ (t : Counts) (nodes operands classes roots : List ℕ) (well : WellFormed t nodes operands roots) (tables : NodeTables t nodes operands) (listed : RootTable t roots)
     (classed : Classed t nodes operands classes) (supported : rootsSupported t nodes operands classes roots ≡ admission.Admitted) where
   root-admitted : (i : ℕ) → i < t .roots → refusedBy (produced nodes operands classes (getD roots i 0)) ≡ admission.Admitted
@@ -66,14 +59,6 @@ module _ (t : Counts) (nodes operands classes roots : List ℕ) (well : WellForm
       (λ i l.
       let low : i < t .roots = omega (arith, length-take-le (t .roots) roots (listed .roots-long)) in
       rw (getD-take (t .roots) roots i 0 low) (h i low))
-
-  -- the roots as the papers see them make the tables' theory
-  pub theory-is : theory (rootsOf t nodes operands roots) ≡ rootFormulas t nodes operands roots
-  unfolding theory rootsOf rootFormulas
-  theory-is =
-      formulas-list (rootOf t nodes operands) (formula t nodes operands) (take (t .roots) roots)
-      (each-root (λ k. rootFormula (rootOf t nodes operands k) ≡ formula t nodes operands k)
-      (λ i l. root-formula t nodes operands roots well (tables .operands-long) classes (getD roots i 0) (well .root i l) (root-admitted i l)))
 
   module _ (rs : List ℕ) (accepted : rankCheck t nodes operands classes roots rs ≡ admission.Admitted) where
     rank : ℕ → ℕ

@@ -1,10 +1,10 @@
--- The formula of a node, from those of lower nodes; the formulas of a theory's roots.
+-- The formula of a node, from those of lower nodes; the theory of the tables.
 -- Assumes nothing.
 use Prim.Native.Nat.{ℕ}
 use mathlib.Core.List.{List, map}
 use lib.ListN.{getD, take}
 use Rattle.base.specs.Rising.{rising}
-use Rattle.formula.specs.Formula.{Formula, Formulas, atom, falsum, implies, conj, disj, ofList}
+use Rattle.formula.specs.Formula.{Formula, atom, falsum, implies, conj, disj, ofList}
 use Rattle.theory.specs.Node.{nodeAt, span}
 use Rattle.theory.specs.declared.Counts.{Counts}
 use Rattle.theory.specs.declared.Node.{Node}
@@ -25,5 +25,6 @@ nodeFormulas nodes operands n = rising falsum (λ f k. nodeFormula operands f (n
 unfoldable pub formula : Counts → List ℕ → List ℕ → ℕ → Formula
 formula t nodes operands k = getD (nodeFormulas nodes operands (t .nodes)) k falsum
 
-unfoldable pub rootFormulas : Counts → List ℕ → List ℕ → List ℕ → Formulas
-rootFormulas t nodes operands roots = ofList (map (formula t nodes operands) (take (t .roots) roots))
+-- the theory of the tables: the formulas of their roots, in order
+abbrev pub theoryOf : Counts → List ℕ → List ℕ → List ℕ → List Formula
+theoryOf t nodes operands roots = map (formula t nodes operands) (take (t .roots) roots)
