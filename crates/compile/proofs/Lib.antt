@@ -1,1 +1,2 @@
 pub mod RootFormula
+pub mod Unsupported

@@ -108,7 +108,7 @@ module _ (floor divisor : ℕ) (T : Tables) (c : Candidate) (ws : List ℕ) wher
 
       go : (a : Admission) → tests T c (length ws) ≡ a → outcomeAt floor divisor T c ws a .answer ≡ kept.refused (BadEntry k) → outcomeAt floor divisor T c ws a .words ≡ cleared T ws
       go admission.Admitted q e = done (result floor divisor T (atomsOf T c) (ofWords T ws)) e
-      go (admission.Refused r) q e = let z : r ≡ BadEntry k = cc in absurd (tests-not-17 k T c (length ws) (q ∙ ap admission.Refused z))
+      go (admission.Refused r) q e = let z : r ≡ BadEntry k = cc in absurd (tests-not-17 T c (length ws) k (q ∙ ap admission.Refused z))
 
   check-leaves : CheckLeaves T ws (outcome floor divisor T c ws)
   unfolding cleared

@@ -11,7 +11,7 @@ use Rattle.kept.specs.Decides.{DecidesTheory}
 use Rattle.kept.specs.Outcome.{accepted}
 use Rattle.kept.specs.Series.{zeroedWords, answerTo, seriesWords, Demand3}
 use Rattle.series.proofs.Series.{series, certified-series}
-use Rattle.series.proofs.Ranks.{demand-2-ranks}
+use Rattle.series.proofs.Ranks.{demand-2-ranks, admitted-exactly}
 use Rattle.demands.specs.Demand2.{Demand2}
 
 -- the first check of a series
@@ -23,6 +23,7 @@ first-check floor divisor T past c d v n e = d .each [] c [] refl .decides v n e
 pub demand-2 : (t : Counts) (nodes operands roots ps rs us ws : List ℕ) → Demand2 t nodes operands roots ps rs us ws
 demand-2 t nodes operands roots ps rs us ws =
     record {
+      admitted = admitted-exactly t nodes operands roots ps rs us ws;
       ranks = demand-2-ranks t nodes operands roots ps rs us ws;
       verdict = λ p e floor divisor past c. first-check floor divisor _ past c (series floor divisor t nodes operands roots ps rs us ws p e past (c ∷ []));
       certified-verdict = λ proposed p e floor divisor past c. first-check floor divisor _ past c (certified-series floor divisor t nodes operands roots ps rs us ws p proposed e past (c ∷ []));

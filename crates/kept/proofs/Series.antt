@@ -144,7 +144,7 @@ module _ (T : Tables) (plan : PlannedTables T) where
             let said : answerTo floor divisor T c (state o) ≡ refused r = ap (λ y. y .answer) x in
             let no : (v : Verdict) (n : ℕ) → answerTo floor divisor T c (state o) ≡ accepted v n → ⊥ = λ v n z. let q : _≡_ {A = ℕ} 0 1 = cc in omega arith in
             record {
-              never-17 = λ k z. let q : r ≡ BadEntry k = cc in tests-not-17 k T c size (rw q at e);
+              never-17 = λ k z. let q : r ≡ BadEntry k = cc in tests-not-17 T c size k (rw q at e);
               let-pass = λ h. let q : tests T c size ≡ Admitted = sym (ap (tests T c) (length-state o)) ∙ h in cc;
               unaltered = λ s z. ap (λ y. y .words) x;
               as-fresh = λ v n z. absurd (no v n z);

@@ -162,10 +162,6 @@ module _ (T : Tables) where
     present-turning a l =
         present-held T (truth T I) (waits a) (support T (truth T I)) (switched a I J) (falseRoot T (truth T I)) a l ∙ switched-from a I J a (omega arith)
 
-    present-fresh : (a : ℕ) → a < atomCount T → present (fresh T I) a ≡ I a
-    unfolding fresh summary
-    present-fresh a l = present-held T (truth T I) (λ k. false) (support T (truth T I)) I (falseRoot T (truth T I)) a l
-
     turned : (a : ℕ) → a < atomCount T → unlike (I a) (J a) ≡ true → atomTurned T J a (turning a) ≡ some (turning (suc a))
     unfolding atomTurned turning waits
     turned a l e =

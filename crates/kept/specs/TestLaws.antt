@@ -15,11 +15,11 @@ use Rattle.base.specs.Places.{Lowest}
 use Rattle.formula.specs.Passes.{Within}
 use Rattle.theory.specs.Admission.{orElse}
 use Rattle.theory.specs.Limits.{limitsOf}
+use Rattle.theory.specs.Refusal.{told}
 use Rattle.theory.specs.Refusals.{not-both, or-else-left, or-else-right}
-use Rattle.theory.specs.declared.Admission.{Admission}
+use Rattle.theory.specs.Only.{UpTo, only-admitted, only-or-else, up-to-test, up-to-passed, limits-up-to}
 use Rattle.theory.specs.declared.Admission.the-variants.{Admitted, Refused}
-use Rattle.theory.specs.declared.Counts.{Counts}
-use Rattle.theory.specs.declared.Refusal.the-variants.{PastLimit, ShortBuffer, ForeignStamp, StrayBit, BadEntry}
+use Rattle.theory.specs.declared.Refusal.the-variants.{ShortBuffer, ForeignStamp, StrayBit, BadEntry}
 use Rattle.words.specs.Sets.{member}
 use Rattle.words.specs.SetLaws.{member-past}
 use Rattle.words.specs.Next.{next}
@@ -30,63 +30,24 @@ use Rattle.kept.specs.Tests.{Buffer, buffers, firstShort, stamps, strayB
 
 -- ---- no 17
 
-module _ (place : ℕ) where
-  abbrev Not17 : Admission → Type 0
-  Not17 a = a ≡ Refused (BadEntry place) → ⊥
+short-up-to : (bs : List Buffer) → UpTo 16 (firstShort bs)
+unfolding firstShort told
+short-up-to [] = only-admitted _
+short-up-to (b ∷ bs) = up-to-test 16 (ltb (b .lent) (b .least)) (ShortBuffer (b .number)) (firstShort bs) (omega arith) (short-up-to bs)
 
-  or-else-not : (a b : Admission) → Not17 a → Not17 b → Not17 (orElse a b)
-  or-else-not Admitted b p q e = q e
-  or-else-not (Refused r) b p q e = p e
+module _ (T : Tables) (c : Candidate) (size : ℕ) where
+  tests-up-to : UpTo 16 (tests T c size)
+  unfolding tests stamps strayBit told
+  tests-up-to =
+      only-or-else _ (limitsOf (T .counts)) _ (limits-up-to 16 (T .counts) (omega arith))
+      (only-or-else _ (firstShort (buffers T c size)) _ (short-up-to (buffers T c size))
+      (only-or-else _ _ _
+      (up-to-passed 16 (eqb (c .stamp) (T .counts .stamp) && eqb (T .plan) (T .counts .stamp)) ForeignStamp (omega arith))
+      (up-to-test 16 (ltb (next 64 (listedWords T c) (atomCount T)) (64 * length (listedWords T c))) (StrayBit (next 64 (listedWords T c) (atomCount T))) Admitted (omega arith) (only-admitted _))))
 
-  admitted-not : Not17 Admitted
-  admitted-not e = not-both (BadEntry place) (sym e)
-
-  either-not : (b : Bool) (x y : Admission) → Not17 x → Not17 y → Not17 (cond b x y)
-  either-not true x y p q e = p e
-  either-not false x y p q e = q e
-
-  limit-not : (n : ℕ) → Not17 (Refused (PastLimit n))
-  limit-not n e = let z : _≡_ {A = ℕ} 0 1 = cc in omega arith
-
-  short-not : (n : ℕ) → Not17 (Refused (ShortBuffer n))
-  short-not n e = let z : _≡_ {A = ℕ} 0 1 = cc in omega arith
-
-  foreign-not : Not17 (Refused ForeignStamp)
-  foreign-not e = let z : _≡_ {A = ℕ} 0 1 = cc in omega arith
-
-  stray-not : (n : ℕ) → Not17 (Refused (StrayBit n))
-  stray-not n e = let z : _≡_ {A = ℕ} 0 1 = cc in omega arith
-
-  limits-not : (c : Counts) → Not17 (limitsOf c)
-  unfolding limitsOf
-  limits-not c =
-      either-not (ltb 65536 (c .atoms)) (Refused (PastLimit 0)) _ (limit-not 0)
-      (either-not (ltb 262144 (c .nodes)) (Refused (PastLimit 1)) _ (limit-not 1)
-      (either-not (ltb 1048576 (c .operands)) (Refused (PastLimit 2)) _ (limit-not 2)
-      (either-not (ltb 262144 (c .roots)) (Refused (PastLimit 3)) Admitted (limit-not 3) admitted-not)))
-
-  lengths-not : (bs : List Buffer) → Not17 (firstShort bs)
-  unfolding firstShort
-  lengths-not [] = admitted-not
-  lengths-not (b ∷ bs) = either-not (ltb (b .lent) (b .least)) (Refused (ShortBuffer (b .number))) (firstShort bs) (short-not (b .number)) (lengths-not bs)
-
-  module _ (T : Tables) (c : Candidate) (size : ℕ) where
-    stamps-not : Not17 (stamps T c)
-    unfolding stamps
-    stamps-not = either-not (eqb (c .stamp) (T .counts .stamp) && eqb (T .plan) (T .counts .stamp)) Admitted (Refused ForeignStamp) admitted-not foreign-not
-
-    stray-bit-not : Not17 (strayBit T c)
-    unfolding strayBit
-    stray-bit-not =
-        either-not (ltb (next 64 (listedWords T c) (atomCount T)) (64 * length (listedWords T c))) (Refused (StrayBit (next 64 (listedWords T c) (atomCount T)))) Admitted
-        (stray-not (next 64 (listedWords T c) (atomCount T))) admitted-not
-
-    pub tests-not-17 : tests T c size ≡ Refused (BadEntry place) → ⊥
-    unfolding tests
-    tests-not-17 =
-        or-else-not (limitsOf (T .counts)) (orElse (firstShort (buffers T c size)) (orElse (stamps T c) (strayBit T c))) (limits-not (T .counts))
-        (or-else-not (firstShort (buffers T c size)) (orElse (stamps T c) (strayBit T c)) (lengths-not (buffers T c size))
-        (or-else-not (stamps T c) (strayBit T c) stamps-not stray-bit-not))
+  pub tests-not-17 : (place : ℕ) → tests T c size ≡ Refused (BadEntry place) → ⊥
+  unfolding told
+  tests-not-17 place e = omega (arith, tests-up-to (BadEntry place) e)
 
 -- ---- an admitted candidate
 

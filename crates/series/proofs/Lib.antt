@@ -1,3 +1,4 @@
 pub mod Planned
+pub mod Admitted
 pub mod Series
 pub mod Ranks

@@ -3,7 +3,7 @@
 use Prim.Native.Nat.{ℕ, _<_}
 use native.Mathlib.Omega.{arith}
 use mathlib.Core.Path.{_≡_, refl, ap, sym, _∙_}
-use mathlib.Core.Logic.{_⊎_, inl, inr, _↔_}
+use mathlib.Core.Logic.{inl, inr, _↔_}
 use mathlib.Core.List.{List, _++_}
 use lib.ListN.{length, getD, take, drop, List·getD-append}
 use lib.Seq.{take-at}
@@ -23,8 +23,9 @@ use Rattle.plan.specs.Finished.{acceptedBy}
 use Rattle.plan.specs.Called.{accepted-long}
 use Rattle.plan.specs.Outcome.{producersOf, planned, ranksOf, planOutcome, certifyOutcome}
 use Rattle.plan.specs.declared.Planning.the-variants.{Planned, Refused}
-use Rattle.series.specs.Ranks.{RootsAdmitted, planMade, rankOf, Derives, Reports, certifyMade, Certifies, Demand2Ranks}
+use Rattle.series.specs.Ranks.{RootsAdmitted, planMade, rankOf, Derives, Reports, Answers, certifyMade, Certifies, Demand2Ranks}
 use Rattle.series.proofs.Planned.{supported, well, tables, classed, answered}
+use Rattle.series.proofs.Admitted.{answers-admitted}
 
 no-refusal : (r : Refusal) (p : ℕ) → Refused r ≡ Planned p → ⊥
 no-refusal r p e = let z : _≡_ {A = ℕ} 0 1 = cc in omega arith
@@ -113,11 +114,17 @@ module _ (t : Counts) (nodes operands roots ps rs us ws : List ℕ) (j : RootsAd
 
   -- ---- the theorem
 
+  answers : Answers t nodes operands roots ps rs us ws
+  answers = go (derived t nodes operands roots) refl
+    where
+      go : (d : Derived) → derived t nodes operands roots ≡ d → Answers t nodes operands roots ps rs us ws
+      go (ranks found) d = inl (found-derives found d)
+      go (cycle a) d = inr (a, cycle-reports a d)
+
   pub demand-2-ranks : Demand2Ranks t nodes operands roots ps rs us ws
   unfolding derived
   demand-2-ranks =
       record {
-        answers = answer (derived t nodes operands roots) refl;
         accepted = λ w. let f = derives-found w in certified-again (f .0) (f .1);
         least = λ w proposed c a l.
             let f = derives-found w in
@@ -135,8 +142,7 @@ module _ (t : Counts) (nodes operands roots ps rs us ws : List ℕ) (j : RootsAd
         );
         left-over = λ a e. check.cycle-stuck t nodes operands classesOf roots formed inTables inClasses a (reports-cycle a e);
       }
-    where
-      answer : (d : Derived) → derived t nodes operands roots ≡ d
-          → Derives t nodes operands roots ps rs us ws ⊎ ((a : ℕ) × Reports t nodes operands roots ps rs us ws a)
-      answer (ranks found) d = inl (found-derives found d)
-      answer (cycle a) d = inr (a, cycle-reports a d)
+
+-- all roots are admitted exactly if `plan` derives ranks or reports a positive cycle
+pub admitted-exactly : (t : Counts) (nodes operands roots ps rs us ws : List ℕ) → RootsAdmitted t nodes operands roots ps rs us ws ↔ Answers t nodes operands roots ps rs us ws
+admitted-exactly t nodes operands roots ps rs us ws = (answers t nodes operands roots ps rs us ws, answers-admitted t nodes operands roots ps rs us ws)

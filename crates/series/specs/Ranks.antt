@@ -37,6 +37,10 @@ module _ (t : Counts) (nodes operands roots ps rs us ws : List ℕ) where
   abbrev pub Reports : ℕ → Type 0
   Reports a = planMade .answer ≡ Refused (PositiveCycle a)
 
+  -- `plan` does one of the two
+  abbrev pub Answers : Type 0
+  Answers = Derives ⊎ ((a : ℕ) × Reports a)
+
   -- the outcome of `certify` on proposed ranks
   abbrev pub certifyMade : List ℕ → Outcome
   certifyMade proposed = certifyOutcome t nodes operands roots proposed ps rs us ws
@@ -50,8 +54,6 @@ module _ (t : Counts) (nodes operands roots ps rs us ws : List ℕ) where
   edges = dependencies t nodes operands (classes t nodes operands roots) roots
 
   pub record Demand2Ranks : Type 0 where
-    -- `plan` derives ranks or reports a positive cycle
-    pub answers : Derives ⊎ ((a : ℕ) × Reports a)
     -- derived ranks are accepted: `certify` on them leaves what `plan` left
     pub accepted : Derives → certifyMade (take (t .atoms) (planMade .ranks)) ≡ planMade
     -- derived ranks are the least that `certify` accepts

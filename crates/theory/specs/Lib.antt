@@ -5,6 +5,7 @@ pub mod Admission
 pub mod WellFormed
 pub mod Spans
 pub mod Refusals
+pub mod Only
 pub mod NodeFormula
 pub mod NodeTruth
 pub mod NodeClass
