@@ -48,23 +48,23 @@ use Rattle.demands.proofs.Told as bytes
 
 numbered : (r : Refusal) → Numbered r
 unfolding told
-numbered (BadKind k) = record { number = 1; place = k; more = []; tells = refl; least = omega arith; most = omega arith }
-numbered (CutRecord k) = record { number = 2; place = k; more = []; tells = refl; least = omega arith; most = omega arith }
-numbered (PastLimit k) = record { number = 3; place = k; more = []; tells = refl; least = omega arith; most = omega arith }
-numbered (BadAtom k) = record { number = 4; place = k; more = []; tells = refl; least = omega arith; most = omega arith }
-numbered (BadOperand k) = record { number = 5; place = k; more = []; tells = refl; least = omega arith; most = omega arith }
-numbered (NoOperands k) = record { number = 6; place = k; more = []; tells = refl; least = omega arith; most = omega arith }
-numbered (BadRoot k) = record { number = 7; place = k; more = []; tells = refl; least = omega arith; most = omega arith }
-numbered (NotRising k) = record { number = 8; place = k; more = []; tells = refl; least = omega arith; most = omega arith }
-numbered (ShortBuffer k) = record { number = 9; place = k; more = []; tells = refl; least = omega arith; most = omega arith }
-numbered (UnsupportedRoot k) = record { number = 10; place = k; more = []; tells = refl; least = omega arith; most = omega arith }
-numbered (UnsupportedBody k b) = record { number = 11; place = k; more = b ∷ []; tells = refl; least = omega arith; most = omega arith }
-numbered (PositiveCycle k) = record { number = 12; place = k; more = []; tells = refl; least = omega arith; most = omega arith }
-numbered RankShape = record { number = 13; place = 0; more = []; tells = refl; least = omega arith; most = omega arith }
-numbered (RankOrder k) = record { number = 14; place = k; more = []; tells = refl; least = omega arith; most = omega arith }
-numbered ForeignStamp = record { number = 15; place = 0; more = []; tells = refl; least = omega arith; most = omega arith }
-numbered (StrayBit k) = record { number = 16; place = k; more = []; tells = refl; least = omega arith; most = omega arith }
-numbered (BadEntry k) = record { number = 17; place = k; more = []; tells = refl; least = omega arith; most = omega arith }
+numbered (BadKind k) = record { place = k; more = []; tells = refl; least = omega arith; most = omega arith }
+numbered (CutRecord k) = record { place = k; more = []; tells = refl; least = omega arith; most = omega arith }
+numbered (PastLimit k) = record { place = k; more = []; tells = refl; least = omega arith; most = omega arith }
+numbered (BadAtom k) = record { place = k; more = []; tells = refl; least = omega arith; most = omega arith }
+numbered (BadOperand k) = record { place = k; more = []; tells = refl; least = omega arith; most = omega arith }
+numbered (NoOperands k) = record { place = k; more = []; tells = refl; least = omega arith; most = omega arith }
+numbered (BadRoot k) = record { place = k; more = []; tells = refl; least = omega arith; most = omega arith }
+numbered (NotRising k) = record { place = k; more = []; tells = refl; least = omega arith; most = omega arith }
+numbered (ShortBuffer k) = record { place = k; more = []; tells = refl; least = omega arith; most = omega arith }
+numbered (UnsupportedRoot k) = record { place = k; more = []; tells = refl; least = omega arith; most = omega arith }
+numbered (UnsupportedBody k b) = record { place = k; more = b ∷ []; tells = refl; least = omega arith; most = omega arith }
+numbered (PositiveCycle k) = record { place = k; more = []; tells = refl; least = omega arith; most = omega arith }
+numbered RankShape = record { place = 0; more = []; tells = refl; least = omega arith; most = omega arith }
+numbered (RankOrder k) = record { place = k; more = []; tells = refl; least = omega arith; most = omega arith }
+numbered ForeignStamp = record { place = 0; more = []; tells = refl; least = omega arith; most = omega arith }
+numbered (StrayBit k) = record { place = k; more = []; tells = refl; least = omega arith; most = omega arith }
+numbered (BadEntry k) = record { place = k; more = []; tells = refl; least = omega arith; most = omega arith }
 
 -- ---- load
 

@@ -5,7 +5,7 @@ use mathlib.Core.Path.{_≡_}
 use mathlib.Core.Logic.{_↔_}
 use mathlib.Core.List.{List, _∷_}
 use lib.ListN.{length, take, drop, replicate}
-use Rattle.theory.specs.Refusal.{told}
+use Rattle.theory.specs.Refusal.{told, numberOf}
 use Rattle.theory.specs.declared.Counts.{Counts}
 use Rattle.theory.specs.declared.Refusal.{Refusal}
 use Rattle.theory.specs.declared.Refusal.the-variants.{BadEntry}
@@ -27,12 +27,11 @@ use Rattle.run.specs.Run.{runOf}
 
 -- a refusal has one number of document 01's, from 1 to 17, and its place
 pub record Numbered (r : Refusal) : Type 0 where
-  pub number : ℕ
   pub place : ℕ
   pub more : List ℕ
-  pub tells : told r ≡ number ∷ place ∷ more
-  pub least : 1 ≤ number
-  pub most : number ≤ 17
+  pub tells : told r ≡ numberOf r ∷ place ∷ more
+  pub least : 1 ≤ numberOf r
+  pub most : numberOf r ≤ 17
 
 -- of `plan` or `certify`, lent the buffers ps, rs, us and the work area ws
 pub record PlanLeaves (ps rs us ws : List ℕ) (o : plan.Outcome) : Type 0 where

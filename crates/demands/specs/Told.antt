@@ -9,10 +9,10 @@ use lib.ListN.{length, getD, take}
 use Rattle.formula.specs.Formula.{ofList}
 use Rattle.formula.specs.Satisfaction.{all}
 use Rattle.formula.specs.Stable.{Stable}
+use Rattle.theory.specs.Refusal.{numberOf}
 use Rattle.theory.specs.declared.Refusal.{Refusal}
 use Rattle.theory.specs.declared.Refusal.the-variants.{PastLimit, ShortBuffer, UnsupportedRoot, UnsupportedBody, PositiveCycle}
 use Rattle.record.specs.File.{refused, theoryFile}
-use Rattle.record.specs.FileRefusal.{FileRefusal}
 use Rattle.load.specs.Candidate.{among}
 use Rattle.encoding.specs.Value.{TheoryFile}
 use Rattle.encoding.specs.Encoding.{encoded}
@@ -59,7 +59,7 @@ pub data Told (file : List ℕ) : Type 0 where
   -- 3: the 65,537th byte
   too-long : 65536 < length file → textOf file ≡ refusedLine (PastLimit 65536) → Told file
   -- 1 to 8: the file encodes no sound theory
-  unsound : (r : Refusal) → length file ≤ 65536 → ((f : TheoryFile) → Sound f → encoded f ≡ file → ⊥) → theoryFile file ≡ refused r → FileRefusal r → textOf file ≡ refusedLine r → Told file
+  unsound : (r : Refusal) → length file ≤ 65536 → ((f : TheoryFile) → Sound f → encoded f ≡ file → ⊥) → theoryFile file ≡ refused r → numberOf r ≤ 8 → textOf file ≡ refusedLine r → Told file
   -- 9: the theory is greater than the run's own tables, of which the lowest is named
   many-atoms : (f : TheoryFile) → Encodes file f → 512 < f .atoms → textOf file ≡ refusedLine (ShortBuffer 0) → Told file
   many-nodes : (f : TheoryFile) → Encodes file f → f .atoms ≤ 512 → 1024 < length (f .nodes) → textOf file ≡ refusedLine (ShortBuffer 1) → Told file

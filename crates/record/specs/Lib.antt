@@ -6,5 +6,4 @@ pub mod Passed
 pub mod Record
 pub mod Contents
 pub mod File
-pub mod FileRefusal
 pub mod Bounds

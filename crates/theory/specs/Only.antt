@@ -7,7 +7,7 @@ use mathlib.Core.Bool.{Bool, true, false, cond, _&&_}
 use mathlib.Core.List.{List}
 use lib.Dec.{eqb, leb, ltb}
 use lib.ListN.{getD}
-use Rattle.theory.specs.Refusal.{told}
+use Rattle.theory.specs.Refusal.{told, numberOf}
 use Rattle.theory.specs.Refusals.{not-both}
 use Rattle.theory.specs.Limits.{limitsOf}
 use Rattle.theory.specs.Node.{nodeAt, span}
@@ -45,9 +45,6 @@ module _ (P : Refusal → Type 0) where
   only-first f h i (suc n) = only-or-else (f i) (firstRefusal f (i + 1) n) (h i) (only-first f h (i + 1) n)
 
 -- ---- by document 01's numbers
-
-abbrev pub numberOf : Refusal → ℕ
-numberOf r = getD (told r) 0 0
 
 -- none with a number above n
 abbrev pub UpTo : ℕ → Admission → Type 0

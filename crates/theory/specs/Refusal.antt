@@ -2,6 +2,7 @@
 -- Assumes nothing.
 use Prim.Native.Nat.{ℕ}
 use mathlib.Core.List.{List, [], _∷_}
+use lib.ListN.{getD}
 use Rattle.theory.specs.declared.Refusal.{Refusal}
 use Rattle.theory.specs.declared.Refusal.the-variants.{BadKind, CutRecord, PastLimit, BadAtom, BadOperand, NoOperands, BadRoot, NotRising, ShortBuffer, UnsupportedRoot, UnsupportedBody, PositiveCycle, RankShape, RankOrder, ForeignStamp, StrayBit, BadEntry}
 
@@ -23,3 +24,6 @@ told (RankOrder head) = 14 ∷ head ∷ []
 told ForeignStamp = 15 ∷ 0 ∷ []
 told (StrayBit bit) = 16 ∷ bit ∷ []
 told (BadEntry node) = 17 ∷ node ∷ []
+
+abbrev pub numberOf : Refusal → ℕ
+numberOf r = getD (told r) 0 0
