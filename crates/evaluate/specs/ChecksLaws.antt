@@ -26,6 +26,7 @@ use Rattle.kept.specs.SetOf.{words64}
 use Rattle.kept.specs.Tables.{Tables, atomCount, nodeCount, rootCount}
 use Rattle.kept.specs.Evaluation as evaluation
 use Rattle.kept.specs.Evaluation.{Evaluation}
+use Rattle.kept.specs.EntryLaws.{root-within}
 use Rattle.kept.specs.VerdictLaws.{verdict-fresh}
 use Rattle.kept.specs.Walk.{walk, keptWalk}
 use Rattle.kept.specs.WalkLaws.{fresh-idle}
@@ -133,7 +134,7 @@ module _ (T : Tables) (J : Interpretation) (ws : List ℕ) where
         let holds : ofWords T mid ≡ evaluation.fresh T J = ap (ofWords T) put ∙ of-written T ws long (evaluation.fresh T J) (fits-fresh T J) in
         results-by T ws (freshResult T J (tablesAdmission T J)) (resumed T (nodeCount T) (walk T (suc (nodeCount T)) (ofWords T mid))) c after
         (ap (freshResult T J) (sym (laid .0) ∙ p)
-        ∙ ap (λ o. check.concluded o (nodeCount T) (evaluation.fresh T J)) (sym (verdict-fresh T J))
+        ∙ ap (λ o. check.concluded o (nodeCount T) (evaluation.fresh T J)) (sym (verdict-fresh T J (root-within T J (sym (laid .0) ∙ p))))
         ∙ sym (walk-done T (nodeCount T) (evaluation.fresh T J) (fresh-idle T J))
         ∙ ap (λ y. resumed T (nodeCount T) (walk T (suc (nodeCount T)) y)) (sym holds))
         (results-then T ws mid (evaluation.fresh T J) long (fits-fresh T J) put (resumed T (nodeCount T) (walk T (suc (nodeCount T)) (ofWords T mid))) c after h)

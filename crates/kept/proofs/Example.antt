@@ -52,21 +52,24 @@ use Rattle.kept.specs.Series.{zeroedWords, answerTo, wordsAfter, Demand3
 use Rattle.kept.proofs.Series.{series}
 
 -- nodes Atom 0, Atom 1, Implies 0 1, False, Implies 0 3, Or 0 4; roots 5 and 2; a choice of atom 0, and atom 1 from node 0
-exampleTables : Tables
-exampleTables =
+abbrev tablesWith : List ℕ → Tables
+tablesWith roots =
     record {
       counts = record { stamp = 7; atoms = 2; nodes = 6; operands = 2; roots = 2 };
       plan = 7;
       made = 2;
       nodes = 0 ∷ 0 ∷ 0 ∷ 0 ∷ 1 ∷ 0 ∷ 2 ∷ 0 ∷ 1 ∷ 1 ∷ 0 ∷ 0 ∷ 2 ∷ 0 ∷ 3 ∷ 4 ∷ 0 ∷ 2 ∷ [];
       operands = 0 ∷ 4 ∷ [];
-      roots = 5 ∷ 2 ∷ [];
+      roots = roots;
       producers = 0 ∷ 0 ∷ 5 ∷ 1 ∷ 1 ∷ 1 ∷ 2 ∷ 0 ∷ [];
       readers =
           10 ∷ 14 ∷ 15 ∷ 16 ∷ 17 ∷ 18 ∷ 19 ∷ 19 ∷ 20 ∷ 21
           ∷ 2 ∷ 4 ∷ 5 ∷ (2 * 2 ^ 62 + 1) ∷ 2 ∷ (3 * 2 ^ 62 + 1) ∷ 4 ∷ 5 ∷ (3 * 2 ^ 62) ∷ 0 ∷ 1
           ∷ replicate 13 0;
     }
+
+exampleTables : Tables
+exampleTables = tablesWith (5 ∷ 2 ∷ [])
 
 -- the answers of a series
 lines : Tables → List ℕ → List Candidate → List Answer
@@ -93,15 +96,25 @@ astray = (1 ∷ 7 ∷ 0 ∷ 0 ∷ 1 ∷ 2 ∷ 0 ∷ 0 ∷ []) ++ ((0 ∷ 0 ∷ 1
 beyond : List ℕ
 beyond = (1 ∷ 7 ∷ 0 ∷ 0 ∷ 0 ∷ 9 ∷ 0 ∷ 0 ∷ []) ++ ((0 ∷ 0 ∷ 1 ∷ 0 ∷ 1 ∷ 1 ∷ []) ++ (0 ∷ 1 ∷ 0 ∷ 0 ∷ 0 ∷ 0 ∷ 0 ∷ []) ++ replicate 15 0 ++ (9 ∷ []))
 
--- C1 to C4, with refusals 15, 16 and 9 among them; and 17, after which every listed word is 0: of `beyond` if no atom changed, and if a node enters
+-- the second root is no node
+rootless : Tables
+rootless = tablesWith (5 ∷ 4294967295 ∷ [])
+
+-- words that hold a check of {0}, which makes the second root false
+heldZero : List ℕ
+heldZero = wordsAfter 64 8 exampleTables (of 7 1) (zeroedWords exampleTables (9 ∷ []))
+
+-- C1 to C4, with refusals 15, 16 and 9 among them; and 17, after which every listed word is 0: of `beyond` if no atom changed, and if a node enters; of `rootless`, kept and fresh
 example : (shown
     ≡ accepted (residual 1) 6 ∷ refused ForeignStamp ∷ accepted stable 4 ∷ refused (StrayBit 2) ∷ accepted (notModel 2) 2 ∷ refused (ShortBuffer 0) ∷ accepted stable 4 ∷ accepted stable 0 ∷ [])
     × (outcome 64 8 exampleTables (of 7 0) spoilt ≡ record { answer = refused (BadEntry 0); words = replicate 36 0 ++ (9 ∷ []) })
     × (outcome 64 8 exampleTables (of 7 0) astray ≡ record { answer = refused (BadEntry 0); words = replicate 36 0 ++ (9 ∷ []) })
     × (outcome 64 8 exampleTables (of 7 0) beyond ≡ record { answer = refused (BadEntry 0); words = replicate 36 0 ++ (9 ∷ []) })
     × (outcome 64 8 exampleTables (of 7 1) beyond ≡ record { answer = refused (BadEntry 0); words = replicate 36 0 ++ (9 ∷ []) })
-unfolding shown spoilt astray beyond lines of exampleTables outcome outcomeAt tests limitsOf firstShort stamps strayBit atomsOf cleared written ofWords image flat cut result isKept changes keptResult freshResult tablesAdmission nodeEntry producerEntry rootEntry firstRefusal keptWalk walkStart atomUpdated atomTurned allEntered walk step stepAt seen seenBy nodeSeen groupSeen settled readersUpdated readerUpdated rootTurned missingBy supportMoved entered behind alone withNode filled advanced advance nextFilled withoutFirst butLowest worklistOf verdict judged verdictOf missingAtom held truth bodyTrue supports support falseRoot summary fresh operandsAt between listAt readingOf setOf allInserted countedSet moved withBit withMember lookup tabulate member inserted removed next bit places count lowest nodeAt span operandsOf nodeTruth nodeTruths allTrue anyTrue allBelow rising extended
-example = (refl, refl, refl, refl, refl)
+    × (outcome 64 8 rootless (of 7 1) heldZero ≡ record { answer = refused (BadEntry 0); words = replicate 36 0 ++ (9 ∷ []) })
+    × (outcome 64 8 rootless (of 7 1) (replicate 36 0 ++ (9 ∷ [])) ≡ record { answer = refused (BadEntry 0); words = replicate 36 0 ++ (9 ∷ []) })
+unfolding shown rootless heldZero spoilt astray beyond lines of exampleTables outcome outcomeAt tests limitsOf firstShort stamps strayBit atomsOf cleared written ofWords image flat cut result isKept changes keptResult freshResult tablesAdmission nodeEntry producerEntry rootEntry firstRefusal keptWalk walkStart atomUpdated atomTurned allEntered walk step stepAt seen seenBy nodeSeen groupSeen settled readersUpdated readerUpdated rootTurned missingBy supportMoved entered behind alone withNode filled advanced advance nextFilled withoutFirst butLowest worklistOf verdict judged verdictOf missingAtom held truth bodyTrue supports support falseRoot summary fresh operandsAt between listAt readingOf setOf allInserted countedSet moved withBit withMember lookup tabulate member inserted removed next bit places count lowest nodeAt span operandsOf nodeTruth nodeTruths allTrue anyTrue allBelow rising extended
+example = (refl, refl, refl, refl, refl, refl, refl)
 
 -- the thresholds of 512 and 520 atoms
 thresholds : (max 64 (512 / 8) ≡ 64) × (max 64 (520 / 8) ≡ 65)

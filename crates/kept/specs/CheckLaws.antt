@@ -85,7 +85,7 @@ module _ (T : Tables) (good : Consistent T) where
 
   kept-result : (I J : Interpretation) → keptResult T (keptWalk T J (fresh T I)) ≡ accepted (verdict T J) (length (places (dirty T I J) 0 (nodeCount T))) (fresh T J)
   unfolding keptResult
-  kept-result I J = rw (kept-fresh T good I J, verdict-fresh T J)
+  kept-result I J = rw (kept-fresh T good I J, verdict-fresh T J (good .root))
 
   module _ (floor divisor : ℕ) where
     pub not-kept : (J : Interpretation) → isKept floor divisor T J (zeroed T) ≡ false

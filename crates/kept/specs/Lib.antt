@@ -32,6 +32,7 @@ pub mod StartLaws
 pub mod Naming
 pub mod Decides
 pub mod VerdictLaws
+pub mod EntryLaws
 pub mod CheckLaws
 pub mod LayoutLaws
 pub mod Planned

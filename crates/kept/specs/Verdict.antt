@@ -7,7 +7,7 @@ use lib.Dec.{eqb, ltb}
 use Rattle.base.specs.Places.{lowest}
 use Rattle.formula.specs.Satisfaction.{Interpretation}
 use Rattle.kept.specs.CountedSet.{Lookup, empty, astray, at, lookup}
-use Rattle.kept.specs.Tables.{Tables, atomCount, rootCount, rootAt}
+use Rattle.kept.specs.Tables.{Tables, atomCount, nodeCount, rootCount, rootAt}
 use Rattle.kept.specs.Evaluation.{Evaluation, truth, support, falseRoot}
 
 -- not a model, by its first false root; residual, by the lowest of its atoms without producer; stable
@@ -30,9 +30,9 @@ verdict T I =
     cond (ltb (firstFalse T I) (rootCount T)) (notModel (rootAt T (firstFalse T I)))
     (cond (ltb (firstMissing T I) (atomCount T)) (residual (firstMissing T I)) stable)
 
--- by the false roots and the missing atoms found; none: a set and its count, or its table, are at odds
+-- by the false roots and the missing atoms found; none: a set and its count, or its table, are at odds, or the root named is no node
 unfoldable pub judged : Tables → Lookup → Lookup → Option Verdict
-judged T (at r) m = some (notModel (rootAt T r))
+judged T (at r) m = cond (ltb (rootAt T r) (nodeCount T)) (some (notModel (rootAt T r))) none
 judged T astray m = none
 judged T empty (at a) = some (residual a)
 judged T empty astray = none

@@ -7,13 +7,13 @@ use mathlib.Core.Logic.{⊎-elim}
 use mathlib.Core.Bool.{Bool, true, false, cond, _&&_, true≢false}
 use mathlib.Core.Option.{some}
 use lib.Dec.{eqb, ltb}
-use borrow.Author.Tests.{eqb-true, eq-eqb, not-true, not-false, lt-ltb, le-ltb}
+use borrow.Author.Tests.{eqb-true, eq-eqb, not-true, not-false, ltb-true, lt-ltb, le-ltb}
 use Rattle.base.specs.Tests.{both, both-left, both-right, below-or}
 use Rattle.base.specs.Places.{lowest, lowest-is, lowest-only, Lowest, count-none}
 use Rattle.formula.specs.Satisfaction.{Interpretation}
 use Rattle.kept.specs.CountedSet.{Lookup, empty, at, lookup, countedSet}
 use Rattle.kept.specs.CountedSetLaws.{count-zero, lookup-at, lookup-empty}
-use Rattle.kept.specs.Tables.{Tables, atomCount, rootCount, rootAt, headAt, bodyAt}
+use Rattle.kept.specs.Tables.{Tables, atomCount, nodeCount, rootCount, rootAt, headAt, bodyAt}
 use Rattle.kept.specs.Evaluation.{held, truth, bodyTrue, supports, support, falseRoot, summary, fresh}
 use Rattle.kept.specs.Verdict.{notModel, residual, stable, missingAtom, firstFalse, firstMissing, verdict, judged, verdictOf}
 use Rattle.kept.specs.Naming.{FirstFalse, AllTrue, Unproduced, FirstUnproduced, AllProduced, Right}
@@ -88,19 +88,20 @@ module _ (T : Tables) (I : Interpretation) where
   abbrev wrong : ℕ → Bool
   wrong = falseRoot T (truth T I)
 
-  judged-found : (b c : Bool) (r a : ℕ)
+  judged-found : (b c : Bool) (r a : ℕ) → (b ≡ true → rootAt T r < nodeCount T)
       → judged T (cond b (at r) empty) (cond c (at a) empty) ≡ some (cond b (notModel (rootAt T r)) (cond c (residual a) stable))
   unfolding judged
-  judged-found true c r a = refl
-  judged-found false true r a = refl
-  judged-found false false r a = refl
+  judged-found true c r a l = rw (lt-ltb (rootAt T r) (nodeCount T) (l refl))
+  judged-found false true r a l = refl
+  judged-found false false r a l = refl
 
-  -- a fresh evaluation tells it
-  pub verdict-fresh : verdictOf T (fresh T I) ≡ some (verdict T I)
+  -- a fresh evaluation tells it, if every root is a node
+  pub verdict-fresh : ((r : ℕ) → r < rootCount T → rootAt T r < nodeCount T) → verdictOf T (fresh T I) ≡ some (verdict T I)
   unfolding verdictOf fresh summary held verdict missingAtom
-  verdict-fresh =
+  verdict-fresh within =
       ap₂ (judged T) (lookup-lowest wrong (rootCount T)) (lookup-lowest (missingAtom T I) (atomCount T))
       ∙ judged-found (ltb (firstFalse T I) (rootCount T)) (ltb (firstMissing T I) (atomCount T)) (firstFalse T I) (firstMissing T I)
+      (λ e. within (firstFalse T I) (ltb-true (firstFalse T I) (rootCount T) e))
 
   named-root : firstFalse T I < rootCount T → verdict T I ≡ notModel (rootAt T (firstFalse T I))
   unfolding verdict

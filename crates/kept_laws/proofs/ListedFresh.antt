@@ -24,6 +24,7 @@ use Rattle.kept.specs.Tables.{Tables, atomCount, nodeCount, rootCount, rootAt, 
 use Rattle.kept.specs.Seen.{seenBy}
 use Rattle.kept.specs.SeenLaws.{seen-is, seen-agree}
 use Rattle.kept.specs.Evaluation.{held, truth, bodyTrue, supports, support, falseRoot, summary, fresh}
+use Rattle.kept.specs.EntryLaws.{nodes-ok, body-within, root-within}
 use Rattle.kept.specs.HeldLaws.{held-agree}
 use Rattle.kept.specs.Verdict.{verdict, verdictOf}
 use Rattle.kept.specs.VerdictLaws.{verdict-fresh}
@@ -45,10 +46,6 @@ truth-seen T J k t l e =
 
     below : ℕ → Bool
     below o = getD (rising false make k) o false
-
-entry-admitted : (b : Bool) (place : ℕ) → entry b place ≡ Admitted → b ≡ true
-entry-admitted true place e = refl
-entry-admitted false place e = absurd (not-both (BadEntry place) e)
 
 module _ (T : Tables) (J : Interpretation) where
   -- ---- the nodes: the same one is refused first, and truths agree below it
@@ -105,32 +102,11 @@ module _ (T : Tables) (J : Interpretation) where
     -- ---- what a fresh check leaves
 
     module _ (ok : tablesAdmission T J ≡ Admitted) where
-      abbrev nodesOk : Admission
-      nodesOk = firstRefusal (nodeEntry T J) 0 (nodeCount T)
-
-      abbrev producersOk : Admission
-      producersOk = firstRefusal (producerEntry T) 0 (T .made)
-
-      abbrev rootsOk : Admission
-      rootsOk = firstRefusal (rootEntry T) 0 (rootCount T)
-
       truths-agree : AgreeBelow (nodeCount T)
-      unfolding tablesAdmission
-      truths-agree = nodes-listed 0 (nodeCount T) (omega arith) (λ k l. absurd (omega arith)) .1 (or-else-left nodesOk (orElse producersOk rootsOk) ok)
+      truths-agree = nodes-listed 0 (nodeCount T) (omega arith) (λ k l. absurd (omega arith)) .1 (nodes-ok T J ok)
 
-      body-within : (p : ℕ) → p < T .made → bodyAt T p ≤ nodeCount T
-      unfolding tablesAdmission producerEntry
-      body-within p l =
-          leb-true (bodyAt T p) (nodeCount T) (both-right (ltb (headAt T p) (atomCount T)) (leb (bodyAt T p) (nodeCount T))
-          (entry-admitted (ltb (headAt T p) (atomCount T) && leb (bodyAt T p) (nodeCount T)) 0
-          (none-refused (producerEntry T) 0 (T .made) (or-else-left producersOk rootsOk (or-else-right nodesOk (orElse producersOk rootsOk) ok)) p (omega arith) (omega arith))))
-
-      root-within : (r : ℕ) → r < rootCount T → rootAt T r < nodeCount T
-      unfolding tablesAdmission rootEntry
-      root-within r l =
-          ltb-true (rootAt T r) (nodeCount T)
-          (entry-admitted (ltb (rootAt T r) (nodeCount T)) 0
-          (none-refused (rootEntry T) 0 (rootCount T) (or-else-right producersOk rootsOk (or-else-right nodesOk (orElse producersOk rootsOk) ok)) r (omega arith) (omega arith)))
+      root-within-listed : (r : ℕ) → r < rootCount T → rootAt (listedTables T) r < nodeCount T
+      root-within-listed r l = rw (root-listed T r l) (root-within T J ok r l)
 
       body-agree : (b : ℕ) → b ≤ nodeCount T → bodyTrue (truth (listedTables T) J) b ≡ bodyTrue (truth T J) b
       unfolding bodyTrue
@@ -139,7 +115,7 @@ module _ (T : Tables) (J : Interpretation) where
 
       supports-agree : (a p : ℕ) → p < T .made → supports (listedTables T) (truth (listedTables T) J) a p ≡ supports T (truth T J) a p
       unfolding supports
-      supports-agree a p l = rw (head-listed T p (omega arith), body-listed T p (omega arith), body-agree (bodyAt T p) (body-within p l))
+      supports-agree a p l = rw (head-listed T p (omega arith), body-listed T p (omega arith), body-agree (bodyAt T p) (body-within T J ok p l))
 
       support-agree : (a : ℕ) → support (listedTables T) (truth (listedTables T) J) a ≡ support T (truth T J) a
       unfolding support
@@ -148,7 +124,7 @@ module _ (T : Tables) (J : Interpretation) where
 
       roots-agree : (r : ℕ) → r < rootCount T → falseRoot (listedTables T) (truth (listedTables T) J) r ≡ falseRoot T (truth T J) r
       unfolding falseRoot
-      roots-agree r l = ap not (ap (truth (listedTables T) J) (root-listed T r l) ∙ truths-agree (rootAt T r) (root-within r l))
+      roots-agree r l = ap not (ap (truth (listedTables T) J) (root-listed T r l) ∙ truths-agree (rootAt T r) (root-within T J ok r l))
 
       fresh-listed : fresh (listedTables T) J ≡ fresh T J
       unfolding fresh summary held
@@ -159,7 +135,7 @@ module _ (T : Tables) (J : Interpretation) where
       verdict-listed : verdict (listedTables T) J ≡ verdict T J
       verdict-listed =
           some-is (verdict (listedTables T) J) (verdict T J)
-          (sym (verdict-fresh (listedTables T) J) ∙ verdict-of-listed T (fresh (listedTables T) J) ∙ ap (verdictOf T) fresh-listed ∙ verdict-fresh T J)
+          (sym (verdict-fresh (listedTables T) J root-within-listed) ∙ verdict-of-listed T (fresh (listedTables T) J) ∙ ap (verdictOf T) fresh-listed ∙ verdict-fresh T J (root-within T J ok))
 
     pub fresh-result-listed : freshResult (listedTables T) J (tablesAdmission (listedTables T) J) ≡ freshResult T J (tablesAdmission T J)
     unfolding freshResult

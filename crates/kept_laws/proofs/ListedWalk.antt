@@ -70,7 +70,7 @@ module _ (T : Tables) where
 
       go : (x y : Bool) → ltb r (rootCount T) ≡ y → judged (listedTables T) (cond x empty (cond y (at r) astray)) m ≡ judged T (cond x empty (cond y (at r) astray)) m
       go true y q = none-found m
-      go false true q = ap (λ k. some (notModel k)) (root-listed T r (ltb-true r (rootCount T) q))
+      go false true q = ap (λ k. cond (ltb k (nodeCount T)) (some (notModel k)) none) (root-listed T r (ltb-true r (rootCount T) q))
       go false false q = refl
 
   module _ (few : T .made ≤ rootCount T) where

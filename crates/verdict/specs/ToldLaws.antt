@@ -80,9 +80,9 @@ module _ (t : Counts) (roots ws : List ℕ) (f : Lookup) (p : (T : Tables) → l
   unfolding verdictOf
   judged-by l q T = ap (λ x. judged (With T) x (missing T)) (ap lookupOf (sym q) ∙ p (With T))
 
-  pub not-model : (k x : ℕ) → f ≡ At k → x ≡ getD roots k 0 → (T : Tables) → some (verdicts.notModel x) ≡ told T
+  pub not-model : (k x : ℕ) → f ≡ At k → x ≡ getD roots k 0 → (T : Tables) → cond (ltb x (t .nodes)) (some (verdicts.notModel x)) none ≡ told T
   unfolding judged
-  not-model k x q r T = ap (λ y. some (verdicts.notModel y)) r ∙ judged-by (At k) q T
+  not-model k x q r T = ap (λ y. cond (ltb y (t .nodes)) (some (verdicts.notModel y)) none) r ∙ judged-by (At k) q T
 
   pub roots-astray : f ≡ Astray → (T : Tables) → none ≡ told T
   unfolding judged

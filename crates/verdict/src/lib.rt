@@ -1,11 +1,14 @@
 // The verdict that a kept evaluation tells.
 ghost use mathlib.Core.Path.{_≡_};
+ghost use mathlib.Core.Bool.{cond};
+ghost use mathlib.Core.Option.{some, none};
 ghost use Prim.Native.Nat.{ℕ, _<_, _≤_};
+ghost use lib.Dec.{ltb};
 ghost use lib.ListN.{length};
 ghost use Rattle.theory.specs.Limits.{Limited};
 ghost use Rattle.kept.specs.CountedSet.{lookup};
 ghost use Rattle.kept.specs.Tables.{Tables};
-ghost use Rattle.kept.specs.Verdict.{verdictOf};
+ghost use Rattle.kept.specs.Verdict.{notModel, verdictOf};
 ghost use Rattle.kept.specs.Layout.{ofWords};
 ghost use Rattle.kept_laws.specs.Given.{usedBy, sized, rooted};
 ghost use Rattle.verdict.specs.Told.{judgedOf, lookupOf};
@@ -18,7 +21,7 @@ pub enum Verdict {
     Stable,
 }
 
-// Stray is refusal 17: a set and its count, or its table, are at odds.
+// Stray is refusal 17: a set and its count, or its table, are at odds, or the root named is no node.
 pub enum Judged {
     Sure(Verdict),
     Stray,
@@ -64,13 +67,24 @@ fn first_missing(counts: Counts, kept: &[u32]) -> Lookup
     lowest(&kept[at..end], counts.atoms)
 }
 
+// Not a model, by the false root `root`.
+fn false_root(counts: Counts, root: usize) -> Judged
+    ensures { λ r. ⌜ judgedOf r ≡ cond (ltb root (counts .nodes)) (some (notModel root)) none ⌝ }
+{
+    if root < counts.nodes {
+        Judged::Sure(Verdict::NotModel(root))
+    } else {
+        Judged::Stray
+    }
+}
+
 // By the false roots in root order, then the missing atoms.
 pub fn judge(counts: Counts, roots: &[u32], kept: &[u32]) -> Judged
     requires { ⌜ Limited counts × (counts .roots ≤ length (now roots)) × (usedBy counts ≤ length (now kept)) ⌝ }
     ensures { λ r. ⌜ ((T : Tables) → judgedOf r ≡ verdictOf (rooted counts (now (roots .entry)) T) (ofWords (rooted counts (now (roots .entry)) T) (now (kept .entry)))) ⌝ }
 {
     match first_false(counts, kept) {
-        Lookup::At(p) => Judged::Sure(Verdict::NotModel(words::word(roots, p))),
+        Lookup::At(p) => false_root(counts, words::word(roots, p)),
         Lookup::Astray => Judged::Stray,
         Lookup::Empty => match first_missing(counts, kept) {
             Lookup::At(a) => Judged::Sure(Verdict::Residual(a)),

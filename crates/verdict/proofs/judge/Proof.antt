@@ -1,4 +1,5 @@
 use native.Mathlib.Omega.{arith}
+use mathlib.Core.Path.{_∙_}
 use Rattle.kept.specs.Layout.{ofWords}
 use Rattle.kept_laws.specs.Given.{sized}
 use Rattle.verdict.specs.ToldLaws.{told-below, not-model, roots-astray, residual-of, missing-astray, stable-of}
@@ -9,6 +10,7 @@ use Rattle.verdict.proofs.judge.Reads as reads
 use Rattle.verdict.proofs.judge.Lts as lts
 use Rattle.verdict.proofs.first_false.Reads as first-false-reads
 use Rattle.verdict.proofs.first_missing.Reads as first-missing-reads
+use Rattle.verdict.proofs.false_root.Reads as false-root-reads
 use Rattle.words.proofs.word.Reads as word-reads
 
 first-false-requires : tie.Need-first-false-requires
@@ -19,6 +21,9 @@ enum-known-p c = search needs
 
 word-requires : tie.Need-word-requires
 word-requires c κs = let below = told-below (c .before .before .before .before .before .before .args .counts) (c .before .before .before .before .before .before .args .counts .roots) _ (λ T. ofWords (sized (c .before .before .before .before .before .before .args .counts) T) (c .before .before .before .before .before .before .args .kept .now) .falseRoots) _ (c .before .before .before .first-false .ensures) (c .before .p .given .1) in omega (arith, below, c .before .before .before .before .before .before .pre .1)
+
+false-root-requires : tie.Need-false-root-requires
+false-root-requires c κs = search needs
 
 enum-told : tie.Need-enum-told
 enum-told c = search needs
@@ -39,7 +44,10 @@ enum-told-4 : tie.Need-enum-told-4
 enum-told-4 c = search needs
 
 returns : tie.Need-returns
-returns c = not-model (c .before .before .before .before .before .before .before .args .counts) (c .before .before .before .before .before .before .before .args .roots .now) (c .before .before .before .before .before .before .before .args .kept .now) _ (c .before .before .before .before .first-false .ensures) _ _ (c .before .before .p .given .1) (c .word .ensures .0)
+returns c =
+    let start = c .before .before .before .before .before .before .before .before in
+    let w = not-model (start .args .counts) (start .args .roots .now) (start .args .kept .now) _ (c .before .before .before .before .before .first-false .ensures) _ _ (c .before .before .before .p .given .1) (c .before .word .ensures .0) in
+    λ T. c .false-root .ensures ∙ w T
 
 returns-2 : tie.Need-returns-2
 returns-2 c = roots-astray (c .before .before .before .before .before .args .counts) (c .before .before .before .before .before .args .roots .now) (c .before .before .before .before .before .args .kept .now) _ (c .before .before .first-false .ensures) (c .enum-told .given .1)
@@ -60,6 +68,7 @@ judge-spec =
     first-false-requires
     enum-known-p
     word-requires
+    false-root-requires
     enum-told
     enum-told-2
     first-missing-requires
