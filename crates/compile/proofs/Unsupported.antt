@@ -1,6 +1,7 @@
 -- A root that is refused is refused 10 or 11.
 -- Assumes nothing.
 use Prim.Native.Nat.{ℕ, _+_}
+use mathlib.Core.Path.{_≡_, refl}
 use mathlib.Core.Bool.{Bool, true, false, cond}
 use mathlib.Core.List.{List}
 use mathlib.Core.Option.{Option, some, none}
@@ -21,40 +22,48 @@ use Rattle.compile.specs.Producers.{refusedBy, supportedAt, rootsSupport
 use Rattle.compile.specs.declared.Produced.{Produced}
 use Rattle.compile.specs.declared.Produced.the-variants.{Nothing, Made, Refused}
 
--- whatever holds of these two refusals
-module _ (P : Refusal → Type 0) (ten : (root : ℕ) → P (UnsupportedRoot root)) (eleven : (root body : ℕ) → P (UnsupportedBody root body)) where
+module _ (P : Refusal → Type 0) where
   abbrev OnlyBy : Produced → Type 0
   OnlyBy p = Only P (refusedBy p)
 
-  fact-only : (root : ℕ) (o : Option Head) → OnlyBy (fact root o)
+  fact-only : (root : ℕ) → P (UnsupportedRoot root) → (o : Option Head) → OnlyBy (fact root o)
   unfolding fact refusedBy
-  fact-only root none = only-refused P (UnsupportedRoot root) (ten root)
-  fact-only root (some h) = only-admitted P
+  fact-only root ten none = only-refused P (UnsupportedRoot root) ten
+  fact-only root ten (some h) = only-admitted P
 
-  rule-only : (classes : List ℕ) (root body : ℕ) (o : Option Head) → OnlyBy (rule classes root body o)
+  rule-only : (classes : List ℕ) (root body : ℕ) → P (UnsupportedRoot root) → P (UnsupportedBody root body) → (o : Option Head) → OnlyBy (rule classes root body o)
   unfolding rule refusedBy
-  rule-only classes root body none = only-refused P (UnsupportedRoot root) (ten root)
-  rule-only classes root body (some h) = go (eqb (getD classes body 0) 2)
+  rule-only classes root body ten eleven none = only-refused P (UnsupportedRoot root) ten
+  rule-only classes root body ten eleven (some h) = go (eqb (getD classes body 0) 2)
     where
       go : (b : Bool) → OnlyBy (cond b (Refused (UnsupportedBody root body)) (Made (producer root (body + 1) h)))
-      go true = only-refused P (UnsupportedBody root body) (eleven root body)
+      go true = only-refused P (UnsupportedBody root body) eleven
       go false = only-admitted P
 
   module _ (nodes operands classes : List ℕ) where
-    node-only : (root : ℕ) (n : Node) → OnlyBy (producedBy nodes operands classes root n)
+    node-only : (root : ℕ) → P (UnsupportedRoot root) → (n : Node) → ((l r : ℕ) → n ≡ Implies l r → P (UnsupportedBody root l))
+        → OnlyBy (producedBy nodes operands classes root n)
     unfolding producedBy refusedBy
-    node-only root (Atom a) = fact-only root (headOf nodes operands (Atom a))
-    node-only root False = only-admitted P
-    node-only root (Implies l r) = go (isFalse (nodeAt nodes r))
+    node-only root ten (Atom a) eleven = fact-only root ten (headOf nodes operands (Atom a))
+    node-only root ten False eleven = only-admitted P
+    node-only root ten (Implies l r) eleven = go (isFalse (nodeAt nodes r))
       where
         go : (b : Bool) → OnlyBy (cond b Nothing (rule classes root l (headOf nodes operands (nodeAt nodes r))))
         go true = only-admitted P
-        go false = rule-only classes root l (headOf nodes operands (nodeAt nodes r))
-    node-only root (And s c) = fact-only root (headOf nodes operands (And s c))
-    node-only root (Or s c) = fact-only root (headOf nodes operands (Or s c))
-    node-only root Unknown = fact-only root (headOf nodes operands Unknown)
+        go false = rule-only classes root l ten (eleven l r refl) (headOf nodes operands (nodeAt nodes r))
+    node-only root ten (And s c) eleven = fact-only root ten (headOf nodes operands (And s c))
+    node-only root ten (Or s c) eleven = fact-only root ten (headOf nodes operands (Or s c))
+    node-only root ten Unknown eleven = fact-only root ten (headOf nodes operands Unknown)
 
-    pub supported-only : (t : Counts) (roots : List ℕ) → Only P (rootsSupported t nodes operands classes roots)
-    unfolding rootsSupported supportedAt produced
-    supported-only t roots =
-        only-first P (supportedAt nodes operands classes roots) (λ i. node-only (getD roots i 0) (nodeAt nodes (getD roots i 0))) 0 (t .roots)
+    -- what holds of 10 of a root, and of 11 with the left of its Implies as body
+    pub root-only : (roots : List ℕ) (i : ℕ) → P (UnsupportedRoot (getD roots i 0)) → ((l r : ℕ) → nodeAt nodes (getD roots i 0) ≡ Implies l r → P (UnsupportedBody (getD roots i 0) l))
+        → Only P (supportedAt nodes operands classes roots i)
+    unfolding supportedAt produced
+    root-only roots i ten eleven = node-only (getD roots i 0) ten (nodeAt nodes (getD roots i 0)) eleven
+
+-- whatever holds of these two refusals
+pub supported-only : (P : Refusal → Type 0) → ((root : ℕ) → P (UnsupportedRoot root)) → ((root body : ℕ) → P (UnsupportedBody root body))
+    → (nodes operands classes : List ℕ) (t : Counts) (roots : List ℕ) → Only P (rootsSupported t nodes operands classes roots)
+unfolding rootsSupported
+supported-only P ten eleven nodes operands classes t roots =
+    only-first P (supportedAt nodes operands classes roots) (λ i. root-only P nodes operands classes roots i (ten (getD roots i 0)) (λ l r e. eleven (getD roots i 0) l)) 0 (t .roots)

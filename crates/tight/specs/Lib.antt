@@ -1,2 +1,2 @@
-pub mod Numbers
-pub mod NumbersLaws
+pub mod Call
+pub mod CallLaws

@@ -1,0 +1,5 @@
+pub mod Word
+pub mod Fits
+pub mod Unpacked
+pub mod WordLaws
+pub mod PackLaws
