@@ -1,3 +1,4 @@
 pub mod Bounded
 pub mod CheckFits
 pub mod PlanFits
+pub mod Examples
