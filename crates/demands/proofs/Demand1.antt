@@ -26,7 +26,7 @@ use Rattle.load.specs.Loading.{loading, loadingSound}
 use Rattle.load.specs.declared.Loaded.the-variants as loads
 use Rattle.load.proofs.Loads as ways
 use Rattle.plan.specs.Outcome.{planned, planOutcome, certifyOutcome}
-use Rattle.plan.specs.declared.Planning.the-variants as answers
+use Rattle.plan.specs.declared.Planning.the-variants as planning
 use Rattle.kept.specs.Tables.{Tables}
 use Rattle.kept.specs.Candidate.{Candidate, atomsOf}
 use Rattle.kept.specs.Layout.{ofWords, listed}
@@ -37,6 +37,11 @@ use Rattle.kept.specs.TestLaws.{tests-not-17}
 use Rattle.kept.specs.Outcome as kept
 use Rattle.kept.specs.Outcome.{cleared, concluded, outcomeAt, outcome}
 use Rattle.kept_laws.proofs.AnyWords.{outcome-keeps}
+use Rattle.answers.specs.Word.{planningWord, checkWord}
+use Rattle.answers.specs.Unpacked.{planningIn, answerIn}
+use Rattle.answers.specs.WordLaws.{planning-back, answer-back}
+use Rattle.answers.proofs.PlanFits.{plan-fits, certify-fits}
+use Rattle.answers.proofs.CheckFits.{outcome-fits}
 use Rattle.text.specs.Lines.{theoryLine, refusedLine}
 use Rattle.run.specs.Text.{textOf}
 use Rattle.run.specs.Run.{Running, running, runOf}
@@ -89,7 +94,7 @@ load-leaves (refused x) b r e = refl
 plan-leaves : (t : Counts) (nodes operands roots ps rs us ws : List ℕ) (a : Admission) (ranked : List ℕ) → PlanLeaves ps rs us ws (planned t nodes operands roots ps rs us ws a ranked)
 unfolding planned
 plan-leaves t nodes operands roots ps rs us ws admission.Admitted ranked =
-    let no : (p : ℕ) (r : Refusal) → answers.Planned p ≡ answers.Refused r → ⊥ = λ p r e. let n : _≡_ {A = ℕ} 0 1 = cc in omega arith in
+    let no : (p : ℕ) (r : Refusal) → planning.Planned p ≡ planning.Refused r → ⊥ = λ p r e. let n : _≡_ {A = ℕ} 0 1 = cc in omega arith in
     record { work-zero = refl; producers-same = λ r e. absurd (no _ r e); ranks-same = λ r e. absurd (no _ r e); readers-same = λ r e. absurd (no _ r e) }
 plan-leaves t nodes operands roots ps rs us ws (admission.Refused x) ranked =
     record { work-zero = refl; producers-same = λ r e. refl; ranks-same = λ r e. refl; readers-same = λ r e. refl }
@@ -164,6 +169,18 @@ module _ (file out : List ℕ) (small : Below 256 file) where
       let w = leaves-by (leb size (length out)) refl in
       record { refuses = w .0; output-same = w .1; past-same = w .2 }
 
+-- ---- the words that a host gets
+
+word-of-plan : (t : Counts) (nodes operands roots ps rs us ws : List ℕ) → let a = planOutcome t nodes operands roots ps rs us ws .answer in planningIn (planningWord a) ≡ a
+word-of-plan t nodes operands roots ps rs us ws = planning-back _ (plan-fits t nodes operands roots ps rs us ws)
+
+word-of-certify : (t : Counts) (nodes operands roots proposed ps rs us ws : List ℕ)
+    → let a = certifyOutcome t nodes operands roots proposed ps rs us ws .answer in planningIn (planningWord a) ≡ a
+word-of-certify t nodes operands roots proposed ps rs us ws = planning-back _ (certify-fits t nodes operands roots ps rs us ws proposed)
+
+word-of-check : (floor divisor : ℕ) (T : Tables) (c : Candidate) (ws : List ℕ) → let a = outcome floor divisor T c ws .answer in answerIn (checkWord a) ≡ a
+word-of-check floor divisor T c ws = answer-back _ (outcome-fits floor divisor T c ws)
+
 pub demand-1 : Demand1
 unfolding planOutcome certifyOutcome
 demand-1 =
@@ -174,4 +191,7 @@ demand-1 =
       of-certify = λ t nodes operands roots proposed ps rs us ws. plan-leaves t nodes operands roots ps rs us ws _ proposed;
       of-check = check-leaves;
       of-run = run-leaves;
+      word-of-plan = word-of-plan;
+      word-of-certify = word-of-certify;
+      word-of-check = word-of-check;
     }

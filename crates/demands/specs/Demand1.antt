@@ -22,6 +22,8 @@ use Rattle.kept.specs.Candidate.{Candidate}
 use Rattle.kept.specs.Layout.{listed}
 use Rattle.kept.specs.Outcome as kept
 use Rattle.kept.specs.Outcome.{refused, outcome}
+use Rattle.answers.specs.Word.{planningWord, checkWord}
+use Rattle.answers.specs.Unpacked.{planningIn, answerIn}
 use Rattle.run.specs.Text.{textOf}
 use Rattle.run.specs.Run.{runOf}
 
@@ -65,3 +67,8 @@ pub record Demand1 : Type 0 where
   pub of-certify : (t : Counts) (nodes operands roots proposed ps rs us ws : List ℕ) → PlanLeaves ps rs us ws (certifyOutcome t nodes operands roots proposed ps rs us ws)
   pub of-check : (floor divisor : ℕ) (T : Tables) (c : Candidate) (ws : List ℕ) → CheckLeaves T ws (outcome floor divisor T c ws)
   pub of-run : (file out : List ℕ) → Below 256 file → RunLeaves file out
+  -- the one number that a host gets tells the whole answer
+  pub word-of-plan : (t : Counts) (nodes operands roots ps rs us ws : List ℕ) → let a = planOutcome t nodes operands roots ps rs us ws .answer in planningIn (planningWord a) ≡ a
+  pub word-of-certify : (t : Counts) (nodes operands roots proposed ps rs us ws : List ℕ)
+      → let a = certifyOutcome t nodes operands roots proposed ps rs us ws .answer in planningIn (planningWord a) ≡ a
+  pub word-of-check : (floor divisor : ℕ) (T : Tables) (c : Candidate) (ws : List ℕ) → let a = outcome floor divisor T c ws .answer in answerIn (checkWord a) ≡ a
