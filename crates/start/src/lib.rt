@@ -91,17 +91,20 @@ fn turn_pair(counts: Counts, readers: &[u64], kept: &mut [u32], j: usize, new: u
     requires { ⌜ ((T : Tables) (k : ℕ) → k < 64 → unlike (present (ofWords (listed counts (now readers) T) (now kept)) (j * 64 + k)) (bit new k) ≡ true → j * 64 + k < counts .atoms) ⌝ }
     ensures { λ r. ⌜ ((T : Tables) (J : Interpretation) → ((k : ℕ) → k < 64 → J (j * 64 + k) ≡ bit new k) → Wrote (listed counts (now (readers .entry)) T) (now (kept .entry)) (allTurned (listed counts (now (readers .entry)) T) J (places (λ a. unlike (present (ofWords (listed counts (now (readers .entry)) T) (now (kept .entry))) a) (J a)) (j * 64) 64) (ofWords (listed counts (now (readers .entry)) T) (now (kept .entry)))) r (now (kept .exit))) ⌝ }
 {
-    let mut x = old_pair(counts, kept, j) ^ new;
+    let x = old_pair(counts, kept, j) ^ new;
     lay_pair(counts, kept, j, new);
-    while x != 0 {
-        let k = u64::trailing_zeros(x);
+    let mut i = 0;
+    loop {
+        let k = words::bits(x, i);
+        if k == 64 {
+            return true;
+        }
         let a = j * 64 + k as usize;
         if !turn_atom(counts, readers, kept, a, (new >> k) % 2 == 1) {
             return false;
         }
-        x = x ^ (1u64 << k);
+        i += 1;
     }
-    true
 }
 
 // The new candidate, and the atom nodes of changed atoms on the worklist; `candidate` is its listed words, `marks` the pairs of u32 words that may differ; those before `first` and from `end` on do not.

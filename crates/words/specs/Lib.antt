@@ -4,6 +4,7 @@ pub mod Sets
 pub mod Next
 pub mod Block
 pub mod BitLaws
+pub mod PlaceLaws
 pub mod SetLaws
 pub mod NextLaws
 pub mod Zeros
