@@ -333,7 +333,7 @@ pub fn table_words(counts: Counts) -> usize
 }
 
 // Whether the starts of a list are in order and within the first `listed` words.
-pub fn ordered(start: usize, end: usize, listed: usize) -> bool
+fn ordered(start: usize, end: usize, listed: usize) -> bool
     ensures { λ r. ⌜ r ≡ (leb start end && leb end listed) ⌝ }
 {
     if start > end {
@@ -345,22 +345,37 @@ pub fn ordered(start: usize, end: usize, listed: usize) -> bool
     true
 }
 
-// Whether the two starts of list s of any table are in order and within its first `listed` words.
+// Whether list s of any table, which starts at `start`, has its two starts in order and within the first `listed` words.
+pub fn in_order_from(table: &[u64], listed: usize, s: usize, start: usize) -> bool
+    requires { ⌜ (s + 1 < length (now table)) × (start ≡ getD (now table) s 0) ⌝ }
+    ensures { λ r. ⌜ r ≡ inOrder (now (table .entry)) listed s ⌝ }
+{
+    ordered(start, words::word64(table, s + 1), listed)
+}
+
+// The same, its start read from the table.
 pub fn in_order(table: &[u64], listed: usize, s: usize) -> bool
     requires { ⌜ s + 1 < length (now table) ⌝ }
     ensures { λ r. ⌜ r ≡ inOrder (now (table .entry)) listed s ⌝ }
 {
-    ordered(words::word64(table, s), words::word64(table, s + 1), listed)
+    in_order_from(table, listed, s, words::word64(table, s))
 }
 
-// List s of any table whose two starts are in order.
+// List s of any table whose two starts are in order, the first of them at hand: that part of the table.
+pub fn list_from(table: &[u64], s: usize, start: usize) -> &[u64]
+    requires { ⌜ (s + 1 < length (now table)) × InOrder (now table) (length (now table)) s × (start ≡ getD (now table) s 0) ⌝ }
+    ensures { λ r. ⌜ now r ≡ listAt (now (table .entry)) s ⌝ }
+{
+    let end = words::word64(table, s + 1);
+    &table[start..end]
+}
+
+// The same, its start read from the table.
 fn list_at(table: &[u64], s: usize) -> &[u64]
     requires { ⌜ (s + 1 < length (now table)) × InOrder (now table) (length (now table)) s ⌝ }
     ensures { λ r. ⌜ now r ≡ listAt (now (table .entry)) s ⌝ }
 {
-    let start = words::word64(table, s);
-    let end = words::word64(table, s + 1);
-    &table[start..end]
+    list_from(table, s, words::word64(table, s))
 }
 
 // The readers of a node: its part of the table.

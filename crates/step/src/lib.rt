@@ -114,12 +114,12 @@ fn settle(
     if node_truth::holds(kept, k) == holds {
         return true;
     }
-    let to = words::word64(readers, k + 1);
-    if !readers::ordered(from, to, readers::table_words(counts)) {
+    if !readers::in_order_from(readers, readers::table_words(counts), k, from) {
         return false;
     }
+    let list = readers::list_from(readers, k, from);
     store(kept, k, holds);
-    update_readers(counts, made, producers, &readers[from..to], kept, k, holds)
+    update_readers(counts, made, producers, list, kept, k, holds)
 }
 
 // Node k, the first of the worklist, leaves it and gets its truth.
