@@ -82,17 +82,12 @@ member-zeros w n i = member-zero w (replicate n 0) i (getD-zeros n (i / w))
 pub member-past : (w : ℕ) (ws : List ℕ) (i : ℕ) → length ws ≤ i / w → member w ws i ≡ false
 member-past w ws i h = member-zero w ws i (List·getD-eq-default ws 0 h)
 
--- ---- as code makes them: digit k alone is `1 << k`
+-- ---- as code makes it: digit k alone is `1 << k`
 
 pub insert-word : (w : ℕ) (ws : List ℕ) (i : ℕ) → 0 < w
     → set ws (i / w) (bitOr (getD ws (i / w) 0) ((1 * 2 ^ (i % w)) % 2 ^ w)) ≡ inserted w ws i
 unfolding inserted
 insert-word w ws i p = rw (one-shift w (i % w) (mod-lt i p))
-
-pub remove-word : (w : ℕ) (ws : List ℕ) (i : ℕ) → 0 < w
-    → set ws (i / w) (bitXor (bitOr (getD ws (i / w) 0) ((1 * 2 ^ (i % w)) % 2 ^ w)) ((1 * 2 ^ (i % w)) % 2 ^ w)) ≡ removed w ws i
-unfolding removed
-remove-word w ws i p = rw (one-shift w (i % w) (mod-lt i p))
 
 -- ---- lengths
 

@@ -1,52 +1,19 @@
 // Sets of numbers in words of 32 bits.
 ghost use mathlib.Core.Path.{_≡_};
 ghost use mathlib.Core.Bool.{true, not};
-ghost use Prim.Native.Nat.{ℕ, _+_, _*_, _/_, _^_, _<_, _≤_};
+ghost use Prim.Native.Nat.{ℕ, _+_, _*_, _^_, _<_, _≤_};
 ghost use lib.ListN.{length, getD};
 ghost use lib.Dec.{eqb};
-ghost use Rattle.base.specs.Places.{lowest};
 ghost use Rattle.words.specs.Bit.{bit};
-ghost use Rattle.words.specs.Sets.{member, inserted, removed};
 ghost use Rattle.words.specs.Changed.{changed};
 ghost use Rattle.words.specs.Next.{next};
 ghost use Rattle.words.specs.Block.{AllZero};
-
-pub fn has(words: &[u32], i: usize) -> bool
-    requires { ⌜ i / 32 < length (now words) ⌝ }
-    ensures { λ r. ⌜ r ≡ member 32 (now (words .entry)) i ⌝ }
-{
-    (words[i / 32] >> (i % 32)) % 2 == 1
-}
-
-pub fn insert(words: &mut [u32], i: usize)
-    requires { ⌜ i / 32 < length (now words) ⌝ }
-    ensures { λ _. ⌜ now (words .exit) ≡ inserted 32 (now (words .entry)) i ⌝ }
-{
-    let q = i / 32;
-    words[q] = words[q] | (1u32 << (i % 32));
-}
-
-pub fn remove(words: &mut [u32], i: usize)
-    requires { ⌜ i / 32 < length (now words) ⌝ }
-    ensures { λ _. ⌜ now (words .exit) ≡ removed 32 (now (words .entry)) i ⌝ }
-{
-    let q = i / 32;
-    let m = 1u32 << (i % 32);
-    words[q] = (words[q] | m) ^ m;
-}
 
 // At how many places the words differ.
 pub fn changed(old: u32, new: u32) -> u32
     ensures { λ r. ⌜ r ≡ changed 32 old new ⌝ }
 {
     u32::count_ones(old ^ new)
-}
-
-// The lowest set place of the word x, 32 if there is none.
-pub fn lowest(x: u32) -> u32
-    ensures { λ r. ⌜ r ≡ lowest (bit x) 0 32 ⌝ }
-{
-    u32::trailing_zeros(x)
 }
 
 // The lowest member from `from` on, or 32 times the number of words if there is none.

@@ -2,18 +2,9 @@
 ghost use mathlib.Core.Path.{_≡_};
 ghost use Prim.Native.Nat.{_*_, _/_, _^_, _<_, _≤_};
 ghost use lib.ListN.{length};
-ghost use Rattle.base.specs.Places.{lowest};
-ghost use Rattle.words.specs.Bit.{bit};
-ghost use Rattle.words.specs.Sets.{member, inserted, removed};
+ghost use Rattle.words.specs.Sets.{inserted};
 ghost use Rattle.words.specs.Changed.{changed};
 ghost use Rattle.words.specs.Next.{next};
-
-pub fn has(words: &[u64], i: usize) -> bool
-    requires { ⌜ i / 64 < length (now words) ⌝ }
-    ensures { λ r. ⌜ r ≡ member 64 (now (words .entry)) i ⌝ }
-{
-    (words[i / 64] >> (i % 64)) % 2 == 1
-}
 
 pub fn insert(words: &mut [u64], i: usize)
     requires { ⌜ i / 64 < length (now words) ⌝ }
@@ -23,27 +14,11 @@ pub fn insert(words: &mut [u64], i: usize)
     words[q] = words[q] | (1u64 << (i % 64));
 }
 
-pub fn remove(words: &mut [u64], i: usize)
-    requires { ⌜ i / 64 < length (now words) ⌝ }
-    ensures { λ _. ⌜ now (words .exit) ≡ removed 64 (now (words .entry)) i ⌝ }
-{
-    let q = i / 64;
-    let m = 1u64 << (i % 64);
-    words[q] = (words[q] | m) ^ m;
-}
-
 // At how many places the words differ.
 pub fn changed(old: u64, new: u64) -> u32
     ensures { λ r. ⌜ r ≡ changed 64 old new ⌝ }
 {
     u64::count_ones(old ^ new)
-}
-
-// The lowest set place of the word x, 64 if there is none.
-pub fn lowest(x: u64) -> u32
-    ensures { λ r. ⌜ r ≡ lowest (bit x) 0 64 ⌝ }
-{
-    u64::trailing_zeros(x)
 }
 
 // The lowest member from `from` on, or 64 times the number of words if there is none.
