@@ -1,32 +1,19 @@
--- What the tests of a reader tell.
+-- A loop that puts the numbers of a file into a set.
 -- Assumes nothing.
+use Prim.Native.Nat.{ℕ, _+_, _-_, _*_, _<_, _≤_}
 use mathlib.Core.Path.{_≡_, sym, _∙_}
-use native.Mathlib.Omega.{arith}
-use Prim.Native.Nat.{ℕ, _+_, _-_, _<_, _≤_}
-use mathlib.Core.Bool.{true, false}
 use mathlib.Core.List.{List}
-use lib.Dec.{leb}
-use lib.ListN.{length}
-use borrow.Author.Tests.{le-leb, lt-leb, leb-true}
-use Rattle.base.specs.Tests.{same-test}
-use Rattle.record.specs.Mark.{markAt}
-use Rattle.record.specs.declared.Mark.{Mark}
-use Rattle.record.specs.declared.Mark.the-variants.{Unknown}
-use Rattle.file_reader.specs.Read.{markIn}
+use Rattle.record.specs.Number.{number, numbers}
+use Rattle.record.proofs.Laws.{numbers-turn, numbers-none}
+use Rattle.words.specs.Sets.{inserted}
+use Rattle.file_reader.specs.Insert.{insertedAll}
 
-pub has-rest : (at k n : ℕ) → at ≤ n → leb k (n - at) ≡ leb (at + k) n
-has-rest at k n h =
-    same-test (leb k (n - at)) (leb (at + k) n)
-    (λ e. le-leb (at + k) n (omega (arith, leb-true k (n - at) e)))
-    (λ e. le-leb k (n - at) (omega (arith, leb-true (at + k) n e)))
+module _ (file : List ℕ) (from i count : ℕ) (ws whole : List ℕ) (rest : whole ≡ insertedAll ws (numbers file (from + 4 * i) (count - i))) where
+  pub insert-more : (ws' : List ℕ) (x : ℕ) → i < count → x ≡ number file (from + 4 * i) → ws' ≡ inserted 64 ws x
+      → whole ≡ insertedAll ws' (numbers file (from + 4 * (i + 1)) (count - (i + 1)))
+  unfolding insertedAll
+  insert-more ws' x l e q = rest ∙ rw (numbers-turn file from i count l, q, e)
 
-pub has-none : (at k n : ℕ) → n < at → leb at n ≡ leb (at + k) n
-has-none at k n h = lt-leb at n h ∙ sym (lt-leb (at + k) n (omega arith))
-
-pub mark-here : (file : List ℕ) (at : ℕ) (m : Mark) → leb (at + 2) (length file) ≡ true → m ≡ markAt file at → m ≡ markIn file at
-unfolding markIn
-mark-here file at m h e = rw h e
-
-pub mark-none : (file : List ℕ) (at : ℕ) → leb (at + 2) (length file) ≡ false → Unknown ≡ markIn file at
-unfolding markIn
-mark-none file at h = rw h
+  pub insert-done : count ≤ i → ws ≡ whole
+  unfolding insertedAll
+  insert-done l = sym (rest ∙ rw (numbers-none file (from + 4 * i) i count l))

@@ -16,12 +16,10 @@ use Rattle.record.specs.declared.Cursor.{Cursor}
 use Rattle.record.specs.declared.Mark.{Mark}
 use Rattle.record.specs.declared.Mark.the-variants.{Theory, Atom, False, Implies, And, Or, Root, Candidate, Unknown}
 use Rattle.record.specs.declared.Values.{Values}
-use Rattle.record.proofs.Laws.{length-numbers, numbers-at, numbers-turn, numbers-none}
-use Rattle.words.specs.Sets.{inserted}
+use Rattle.record.proofs.Laws.{length-numbers, numbers-at}
 use Rattle.load.specs.Tables.{tables}
 use Rattle.load.specs.Store.{placed, operandCount, rootCount, stored}
 use Rattle.load.specs.Room.{Stands}
-use Rattle.load.specs.Candidate.{insertedAll}
 
 -- ---- words put in a place
 
@@ -117,16 +115,3 @@ stored-is file c mark v ns os rs ns' os' rs' ws k j s w ek ej en eo er =
     let r = er ∙ ap (placed rs (c .counts .roots)) (ap (numbers file (v .start)) ej ∙ roots-of file (v .start) (v .count) (c .counts .operands) mark) in
     let n = en ∙ ap (placed ns (3 * c .counts .nodes)) w in
     rw (← (s .marked), ← (s .begins), ← (s .many), n, o, r)
-
--- ---- sets
-
--- a loop that puts the numbers of a file into a set
-module _ (file : List ℕ) (from i count : ℕ) (ws whole : List ℕ) (rest : whole ≡ insertedAll ws (numbers file (from + 4 * i) (count - i))) where
-  pub insert-more : (ws' : List ℕ) (x : ℕ) → i < count → x ≡ number file (from + 4 * i) → ws' ≡ inserted 64 ws x
-      → whole ≡ insertedAll ws' (numbers file (from + 4 * (i + 1)) (count - (i + 1)))
-  unfolding insertedAll
-  insert-more ws' x l e q = rest ∙ rw (numbers-turn file from i count l, q, e)
-
-  pub insert-done : count ≤ i → ws ≡ whole
-  unfolding insertedAll
-  insert-done l = sym (rest ∙ rw (numbers-none file (from + 4 * i) i count l))

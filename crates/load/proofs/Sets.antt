@@ -15,7 +15,8 @@ use Rattle.theory.specs.Admission.{allBelow}
 use Rattle.theory.specs.Spans.{all-below-each}
 use Rattle.words.specs.Sets.{member, inserted}
 use Rattle.words.specs.SetLaws.{length-inserted, member-inserted, member-zeros}
-use Rattle.load.specs.Candidate.{insertedAll, wordCount, candidateWords, among}
+use Rattle.file_reader.specs.Insert.{insertedAll}
+use Rattle.load.specs.Candidate.{wordCount, candidateWords, among}
 
 pub word-below : (a atoms : ℕ) → a < atoms → a / 64 < wordCount atoms
 word-below a atoms h = omega (arith, div-add-mod' a 64, div-add-mod' (atoms + 63) 64, mod-lt (atoms + 63) {m = 64} (omega arith))

@@ -6,15 +6,10 @@ use mathlib.Core.Bool.{Bool, true, false, _||_}
 use mathlib.Core.List.{List, [], _∷_}
 use lib.Dec.{eqb}
 use lib.ListN.{length, replicate}
-use Rattle.words.specs.Sets.{inserted}
 use Rattle.theory.specs.Admission.{allBelow}
 use Rattle.record.specs.Layout.{recordEnd, valuesOf}
 use Rattle.record.specs.declared.Mark.the-variants.{Candidate}
-
--- the words with each of these put in
-unfoldable pub insertedAll : List ℕ → List ℕ → List ℕ
-insertedAll ws [] = ws
-insertedAll ws (a ∷ as') = insertedAll (inserted 64 ws a) as'
+use Rattle.file_reader.specs.Insert.{insertedAll}
 
 -- the words that so many atoms take
 abbrev pub wordCount : ℕ → ℕ

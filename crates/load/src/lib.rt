@@ -1,9 +1,8 @@
 // The tables and the candidates of a theory file, written into lent buffers.
 ghost use mathlib.Core.Path.{_≡_};
 ghost use mathlib.Core.List.{_++_};
-ghost use Prim.Native.Nat.{_+_, _*_, _/_, _<_, _≤_};
+ghost use Prim.Native.Nat.{_+_, _*_, _<_, _≤_};
 ghost use lib.ListN.{length, drop, replicate};
-ghost use Rattle.base.specs.Each.{Each};
 ghost use Rattle.theory.specs.Limits.{Limited, Lent};
 ghost use Rattle.record.specs.Number.{number, numbers};
 ghost use Rattle.record.specs.Layout.{arity, recordEnd, valuesOf};
@@ -14,7 +13,7 @@ ghost use Rattle.record.specs.File.{theoryFile, verdict, start};
 ghost use Rattle.load.specs.Tables.{tables};
 ghost use Rattle.load.specs.Loading.{outcome, loading};
 ghost use Rattle.load.specs.Store.{placed, wordsOf, operandCount, rootCount, stored, storedFrom};
-ghost use Rattle.load.specs.Candidate.{insertedAll, wordCount, candidateWords, CandidateAt};
+ghost use Rattle.load.specs.Candidate.{wordCount, candidateWords, CandidateAt};
 ghost use Rattle.load.specs.Room.{Fits, Stands};
 use record::Cursor;
 use record::Judged;
@@ -207,25 +206,11 @@ fn clear(words: &mut [u64], n: usize)
     }
 }
 
-// Each of so many numbers of the file, into the set.
-fn insert_all(file: &[u8], from: usize, count: usize, words: &mut [u64])
-    requires { ⌜ (from + 4 * count ≤ length (now file)) × Each (λ a. a / 64 < length (now words)) (numbers (now file) from count) ⌝ }
-    ensures { λ _. ⌜ now (words .exit) ≡ insertedAll (now (words .entry)) (numbers (now (file .entry)) from count) ⌝ }
-{
-    let mut i = 0;
-    while i < count {
-        words::set64::insert(words, record::number(file, from + 4 * i));
-        i += 1;
-    }
-}
-
-// The candidate that begins at `at`, as a set of atoms; answers where the next record begins.
+// The candidate that begins at `at`, as a set of atoms, by the reader of crate `file_reader`; answers where the next record begins.
 pub fn candidate(file: &[u8], at: usize, atoms: usize, words: &mut [u64]) -> usize
     requires { ⌜ CandidateAt (now file) atoms at × (atoms ≤ 65536) × (wordCount atoms ≤ length (now words)) ⌝ }
     ensures { λ r. ⌜ (r ≡ recordEnd (now (file .entry)) at Mark.Candidate) × (now (words .exit) ≡ candidateWords atoms (valuesOf (now (file .entry)) at Mark.Candidate) ++ drop (wordCount atoms) (now (words .entry))) ⌝ }
 {
-    let v = record::values_of(file, at, Mark::Candidate);
     clear(words, (atoms + 63) / 64);
-    insert_all(file, v.start, v.count, words);
-    v.start + 4 * v.count
+    file_reader::candidate_from(file, at, words)
 }

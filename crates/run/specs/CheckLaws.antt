@@ -16,7 +16,8 @@ use Rattle.record.specs.declared.Summary.{Summary}
 use Rattle.record.specs.declared.Judged.the-variants as judgment
 use Rattle.record.proofs.Judging.{contentsOf, sound-is, read-keeps}
 use Rattle.record.proofs.Steps.{next-within, start-within}
-use Rattle.load.specs.Candidate.{insertedAll, wordCount, candidateWords}
+use Rattle.file_reader.specs.Insert.{insertedAll}
+use Rattle.load.specs.Candidate.{wordCount, candidateWords}
 use Rattle.load.proofs.Candidates.{Candidates, sound-candidates}
 use Rattle.kept.specs.Tables.{Tables, atomCount}
 use Rattle.kept.specs.Outcome.{Answer, accepted, refused as kept-refused, outcome}

@@ -6,11 +6,11 @@ use Rattle.base.specs.Each.{each-at}
 use Rattle.record.specs.Number.{numbers}
 use Rattle.record.proofs.Laws.{length-numbers, numbers-at, numbers-all}
 use Rattle.words.specs.SetLaws.{length-inserted}
-use Rattle.load.specs.Candidate.{insertedAll}
-use Rattle.load.proofs.Laws.{insert-more, insert-done}
+use Rattle.file_reader.specs.Insert.{insertedAll}
+use Rattle.file_reader.proofs.Laws.{insert-more, insert-done}
 use borrow.Author.Needs.{needs}
-use Rattle.load.proofs.insert_all.Statement.{statement}
-use Rattle.load.proofs.insert_all.Tie as tie
+use Rattle.file_reader.proofs.insert_all.Statement.{statement}
+use Rattle.file_reader.proofs.insert_all.Tie as tie
 
 abbrev Inv-loop : tie.InvT-loop
 Inv-loop file from count words₀ i₀ words i = (i ≤ count) × (length words ≡ length words₀) × (insertedAll words₀ (numbers file from count) ≡ insertedAll words (numbers file (from + 4 * i) (count - i)))
