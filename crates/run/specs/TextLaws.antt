@@ -3,7 +3,9 @@
 use Prim.Native.Nat.{ℕ, _<_, _≤_}
 use native.Mathlib.Omega.{arith}
 use mathlib.Core.Path.{_≡_, sym, ap, _∙_}
+use mathlib.Core.Bool.{Bool, true, false, cond}
 use mathlib.Core.List.{List, _++_}
+use lib.Dec.{ltb}
 use lib.ListN.{length, take, replicate, length-append, length-take}
 use borrow.Author.Tests.{lt-ltb, le-ltb}
 use Rattle.theory.specs.Limits.{Lent}
@@ -112,3 +114,39 @@ module _ (file : List ℕ) where
 
     pub file-sound : (s : Summary) → verdict (theoryFile file) ≡ judgment.Sound s → soundText s (theoryFile file) ≡ textOf file
     file-sound s e = sound-of (theoryFile file) s e ∙ whole
+
+-- ---- a text is never empty, so a run's answer of 0 says that it does not fit
+
+refusal-some : (r : Refusal) → 0 < length (refusedLine r)
+unfolding refusedLine
+refusal-some r = omega arith
+
+some-of : (b : Bool) (x y : List ℕ) → 0 < length x → 0 < length y → 0 < length (cond b x y)
+some-of true x y p q = p
+some-of false x y p q = q
+
+answered-some : (t : Counts) (nodes operands roots : List ℕ) (cs : List (List ℕ)) (o : planning.Outcome) (a : plans.Planning)
+    → 0 < length (answered t nodes operands roots cs o a)
+unfolding answered theoryLine
+answered-some t nodes operands roots cs o (planned.Planned p) = omega arith
+answered-some t nodes operands roots cs o (planned.Refused r) = refusal-some r
+
+loaded-some : (cs : List (List ℕ)) (a : loaded.Loaded) (b : tables.Tables) → 0 < length (loadedText cs a b)
+unfolding loadedText plannedText
+loaded-some cs (loads.Sound s) b = answered-some (s .counts) (b .nodes) (b .operands) (b .roots) cs (ownPlan (s .counts) (b .nodes) (b .operands) (b .roots)) _
+loaded-some cs (loads.Refused r) b = refusal-some r
+
+sound-some : (s : Summary) (f : File) → 0 < length (soundText s f)
+unfolding soundText
+sound-some s f =
+    some-of (ltb 512 (s .counts .atoms)) (refusedLine (ShortBuffer 0)) (loadedText (candidatesOf f) (loading f ownTables .answer) (loading f ownTables .left))
+    (refusal-some (ShortBuffer 0)) (loaded-some (candidatesOf f) (loading f ownTables .answer) (loading f ownTables .left))
+
+file-some : (f : File) → 0 < length (fileText f)
+unfolding fileText
+file-some (sound s t) = sound-some s (sound s t)
+file-some (refused r) = refusal-some r
+
+pub text-some : (file : List ℕ) → 0 < length (textOf file)
+unfolding textOf
+text-some file = some-of (ltb 65536 (length file)) (refusedLine (PastLimit 65536)) (fileText (theoryFile file)) (refusal-some (PastLimit 65536)) (file-some (theoryFile file))

@@ -232,13 +232,13 @@ fn copy(out: &mut [u8], source: &[u8], count: usize)
 pub fn run(file: &[u8], out: &mut [u8]) -> usize
     ensures { λ r. ⌜ running r (now (out .exit)) ≡ runOf (now (file .entry)) (now (out .entry)) ⌝ }
 {
-    // More than any text of so short a file; a longer one would be made again.
-    let mut text = [0u8; 327680];
+    // A text that fits here is made once and copied; a longer one is only counted here, and made again in the output.
+    let mut text = [0u8; 16384];
     let n = lines(file, &mut text);
     if n > out.len() {
         return 0;
     }
-    if n <= 327680 {
+    if n <= 16384 {
         copy(out, &text, n);
         return n;
     }

@@ -19,13 +19,13 @@ slice-aggregate-copy : tie.Need-slice-aggregate-copy
 slice-aggregate-copy c = search needs
 
 copy-requires : tie.Need-copy-requires
-copy-requires c κs = (c .before .before .before .if1 .left, omega (arith, c .before .before .if2 .taken, c .before .before .before .before .before .lines .kept, length-replicate {A = ℕ} 327680 0))
+copy-requires c κs = (c .before .before .before .if1 .left, omega (arith, c .before .before .if2 .taken, c .before .before .before .before .before .lines .kept, length-replicate {A = ℕ} 16384 0))
 
 same-length : tie.Need-same-length
 same-length c = search needs
 
 returns-2 : tie.Need-returns-2
-returns-2 c = run-copied (c .before .before .before .before .before .before .before .before .before .before .before .before .args .file .now) (c .before .before .before .before .before .before .before .before .before .before .before .before .args .out .now) _ (c .before .before .before .before .before .before .if1 .left) (replicate 327680 0) _ _ (omega (arith, c .before .before .before .before .before .if2 .taken, length-replicate {A = ℕ} 327680 0)) (c .before .before .before .before .before .before .before .before .lines .ensures) (c .before .before .copy .ensures)
+returns-2 c = run-copied (c .before .before .before .before .before .before .before .before .before .before .before .before .args .file .now) (c .before .before .before .before .before .before .before .before .before .before .before .before .args .out .now) _ (c .before .before .before .before .before .before .if1 .left) (replicate 16384 0) _ _ (omega (arith, c .before .before .before .before .before .if2 .taken, length-replicate {A = ℕ} 16384 0)) (c .before .before .before .before .before .before .before .before .lines .ensures) (c .before .before .copy .ensures)
 
 lines-requires-2 : tie.Need-lines-requires-2
 lines-requires-2 c κs = search needs
