@@ -1,9 +1,9 @@
 //! Times libtight.a beside the Rust that it is carried over from, in one process and on the same
 //! inputs, after seeing that both answer the same.
 //!
-//! `bench [SECONDS [WORD]]`: each measure takes at least SECONDS (0.4 if none are given), a third of
-//! it in each of three passes, and only shapes whose name is WORD are timed. It prints medians and
-//! ratios, ours / Rust, at its end.
+//! `bench [SECONDS [WORD [NODES]]]`: each measure takes at least SECONDS (0.4 if none are given), a
+//! third of it in each of three passes; only shapes whose name is WORD are timed, and only at the
+//! size NODES. It prints medians and ratios, ours / Rust, at its end.
 
 #[path = "../../shared/drawing.rs"]
 #[allow(dead_code, reason = "differ uses the rest")]
@@ -25,9 +25,10 @@ use shapes::Input;
 use std::process::ExitCode;
 use std::time::Duration;
 
-const USAGE: &str = "usage: bench [SECONDS [WORD]]\n\
+const USAGE: &str = "usage: bench [SECONDS [WORD [NODES]]]\n\
      SECONDS: the least time of a measure, above 0 and at most 60\n\
-     WORD: chain, wide, heads, load, deep or growth; all if none is given";
+     WORD: chain, wide, heads, load, deep, late or growth; all if none is given\n\
+     NODES: 1024, 16384 or 262144, not with growth; all three if none is given";
 
 /// About 1,000 nodes, 16,000, and the most.
 const SIZES: [usize; 3] = [1024, 16_384, 262_144];
@@ -43,12 +44,13 @@ const PASSES: usize = 3;
 
 type Shape = (&'static str, fn(usize) -> Input);
 
-const SHAPES: [Shape; 5] = [
+const SHAPES: [Shape; 6] = [
     ("chain", shapes::chain),
     ("wide", shapes::wide),
     ("heads", shapes::heads),
     ("load", shapes::load_of),
     ("deep", shapes::deep),
+    ("late", shapes::late),
 ];
 
 const GROWING: [Shape; 3] = [
@@ -60,6 +62,7 @@ const GROWING: [Shape; 3] = [
 /// A time with its unit.
 fn time(nanoseconds: f64) -> String {
     match nanoseconds {
+        n if n < 1e3 => format!("{n:.1} ns"),
         n if n < 1e4 => format!("{n:.0} ns"),
         n if n < 1e7 => format!("{:.1} us", n / 1e3),
         n => format!("{:.1} ms", n / 1e6),
@@ -112,17 +115,38 @@ fn shape(name: &str, input: Input, least: Duration) -> Row {
     }
 }
 
-/// The rows of the shapes that are wanted.
-fn shapes(wanted: impl Fn(&str) -> bool, least: Duration) -> Vec<Row> {
+/// What is to be timed.
+#[derive(Clone, Copy, Debug, PartialEq)]
+struct Wanted<'a> {
+    least: Duration,
+    word: Option<&'a str>,
+    nodes: Option<usize>,
+}
+
+impl Wanted<'_> {
+    fn shape(self, name: &str) -> bool {
+        self.word.is_none_or(|word| word == name)
+    }
+
+    fn size(self, nodes: usize) -> bool {
+        self.nodes.is_none_or(|wanted| wanted == nodes)
+    }
+
+    /// The same with the time of one of the passes.
+    fn pass(self) -> Self {
+        let least = self.least / PASSES as u32;
+        Self { least, ..self }
+    }
+}
+
+/// The rows of the shapes and sizes that are wanted.
+fn shapes(wanted: Wanted<'_>) -> Vec<Row> {
     let mut rows = Vec::new();
-    for (name, input) in SHAPES {
-        if !wanted(name) {
-            continue;
-        }
-        for nodes in SIZES {
-            rows.push(shape(name, input(nodes), least));
+    for (name, input) in SHAPES.into_iter().filter(|(name, _)| wanted.shape(name)) {
+        for nodes in SIZES.into_iter().filter(|&nodes| wanted.size(nodes)) {
+            rows.push(shape(name, input(nodes), wanted.least));
             if name == "load" && nodes == SIZES[0] {
-                rows.push(shape(name, shapes::load(14, LOAD.0, LOAD.1), least));
+                rows.push(shape(name, shapes::load(14, LOAD.0, LOAD.1), wanted.least));
             }
         }
     }
@@ -209,13 +233,14 @@ fn print_growth(rows: &[Row]) {
     }
 }
 
-/// The least time of a measure and the shape to time, if one is named; or what is wrong.
-fn arguments(given: &[String]) -> Result<(Duration, Option<&str>), String> {
-    let (seconds, word) = match given {
-        [] => (None, None),
-        [seconds] => (Some(seconds), None),
-        [seconds, word] => (Some(seconds), Some(word.as_str())),
-        _ => return Err(format!("{} arguments, not two at most", given.len())),
+/// What the arguments want, or what is wrong with them.
+fn arguments(given: &[String]) -> Result<Wanted<'_>, String> {
+    let (seconds, word, nodes) = match given {
+        [] => (None, None, None),
+        [seconds] => (Some(seconds), None, None),
+        [seconds, word] => (Some(seconds), Some(word.as_str()), None),
+        [seconds, word, nodes] => (Some(seconds), Some(word.as_str()), Some(nodes)),
+        _ => return Err(format!("{} arguments, not three at most", given.len())),
     };
     let least = seconds.map_or(Some(0.4), |text| {
         let seconds: f64 = text.parse().ok()?;
@@ -228,7 +253,18 @@ fn arguments(given: &[String]) -> Result<(Duration, Option<&str>), String> {
     {
         return Err(format!("{word:?} is no shape"));
     }
-    Ok((Duration::from_secs_f64(least), word))
+    let nodes = match nodes {
+        None => None,
+        Some(text) => Some(text.parse().map_err(|_| format!("{text:?} is no size"))?),
+    };
+    if nodes.is_some_and(|nodes| !SIZES.contains(&nodes) || word == Some("growth")) {
+        return Err(format!("{:?} is no size of {:?}", given[2], given[1]));
+    }
+    Ok(Wanted {
+        least: Duration::from_secs_f64(least),
+        word,
+        nodes,
+    })
 }
 
 fn main() -> ExitCode {
@@ -236,20 +272,18 @@ fn main() -> ExitCode {
         .skip(1)
         .map(|argument| argument.to_string_lossy().into_owned())
         .collect();
-    let (least, word) = match arguments(&given) {
-        Ok(arguments) => arguments,
+    let wanted = match arguments(&given) {
+        Ok(wanted) => wanted.pass(),
         Err(wrong) => {
             eprintln!("bench: {wrong}\n{USAGE}");
             return ExitCode::from(2);
         }
     };
-    let wanted = |name: &str| word.is_none_or(|word| word == name);
-    let least = least / PASSES as u32;
-    if SHAPES.iter().any(|(name, _)| wanted(name)) {
-        print_shapes(&in_passes(|| shapes(wanted, least)));
+    if SHAPES.iter().any(|(name, _)| wanted.shape(name)) {
+        print_shapes(&in_passes(|| shapes(wanted)));
     }
-    if wanted("growth") {
-        print_growth(&in_passes(|| growth(least)));
+    if wanted.shape("growth") {
+        print_growth(&in_passes(|| growth(wanted.least)));
     }
     ExitCode::SUCCESS
 }
@@ -296,6 +330,8 @@ mod tests {
             assert!(refused(&[seconds]), "{seconds}");
         }
         assert!(refused(&["1", "tower"]) && refused(&["1", "deep", "1"]));
+        assert!(refused(&["1", "growth", "1024"]) && refused(&["1", "deep", "1024", "1"]));
         assert!(!refused(&[]) && !refused(&["1"]) && !refused(&["0.5", "growth"]));
+        assert!(!refused(&["1", "late", "16384"]));
     }
 }

@@ -197,6 +197,31 @@ pub fn deep(nodes: usize) -> Input {
     }
 }
 
+/// 64 atoms by choice, each under a tower of negations, one tower after the other, and behind them
+/// each atom's node again: a change goes through its tower while a node at the theory's end waits.
+pub fn late(nodes: usize) -> Input {
+    const ATOMS: u32 = 64;
+    let (mut drawing, falsum) = atoms_first(ATOMS as usize);
+    for atom in 0..ATOMS {
+        choice(&mut drawing, falsum, atom);
+    }
+    let rest = nodes - drawing.nodes.len();
+    for atom in 0..ATOMS {
+        let mut top = atom;
+        for _ in 1..rest / ATOMS as usize {
+            top = drawing.push(Node::Implies(top, falsum));
+        }
+    }
+    for atom in 0..ATOMS {
+        drawing.push(Node::Atom(atom));
+    }
+    Input {
+        base: candidate(&drawing, (0..ATOMS).filter(|atom| atom % 2 == 0)),
+        drawing,
+        free: (0..ATOMS).collect(),
+    }
+}
+
 /// A chain over 512 of 1,024 atoms, and rules among the others up to so many nodes, before the
 /// chain's (`behind`) or after them. Only atoms of the chain are changed, so that a check goes over
 /// as many nodes whatever the size.

@@ -1,0 +1,49 @@
+#!/bin/bash
+# Compares two builds of the library: runs a bench of each by turns, row by row, three times, and
+# prints for each measure new / old of our times (the middle one of the three), with both times.
+#
+#   versus.sh OLD NEW [SECONDS [WORD]]    two programs `bench`; SECONDS and WORD as for bench
+#
+# A bench of an older commit, with the shapes of this one:
+#   git worktree add FOLDER COMMIT && (cd FOLDER && rt staticlib tight && rt staticlib tight_file)
+#   cp host/src/bin/bench/{main,shapes}.rs FOLDER/host/src/bin/bench/
+#   (cd FOLDER/host && cargo build --offline --release --bin bench)    # FOLDER/host/target/release/bench
+set -euo pipefail
+old=$1 new=$2 seconds=${3:-0.4}
+for shape in ${4:-chain wide heads load deep late}; do
+    for nodes in 1024 16384 262144; do
+        for _ in 1 2 3; do
+            "$old" "$seconds" "$shape" "$nodes" | sed -n '3,$s/^/old /p'
+            "$new" "$seconds" "$shape" "$nodes" | sed -n '3,$s/^/new /p'
+        done
+    done
+done | awk -F ' *[|] *' '
+    function nanoseconds(cell,  time) { # the first time within the brackets
+        sub(/^[^(]*[(]/, "", cell); split(cell, time, /[ ,]/)
+        return time[1] * (time[2] == "us" ? 1e3 : time[2] == "ms" ? 1e6 : 1)
+    }
+    function text(n) { return n < 1e4 ? sprintf("%.1f ns", n) : n < 1e7 ? sprintf("%.1f us", n / 1e3) : sprintf("%.1f ms", n / 1e6) }
+    function middle(row, cell,  i, j, k, less, ratio) {
+        for (i = 1; i <= 3; i++) ratio[i] = times["new", row, cell, i] / times["old", row, cell, i]
+        for (i = 1; i <= 3; i++) {
+            less = 0
+            for (j = 1; j <= 3; j++) less += ratio[j] < ratio[i] || (ratio[j] == ratio[i] && j < i)
+            if (less == 1) k = i
+        }
+        return sprintf("%.2f (%s, %s)", ratio[k], text(times["old", row, cell, k]), text(times["new", row, cell, k]))
+    }
+    {
+        row = $2 " | " $3
+        if (!(row in seen)) { seen[row]; rows[++count] = row }
+        round[$1, row]++
+        for (cell = 5; cell <= 11; cell++) times[$1, row, cell, round[$1, row]] = nanoseconds($cell)
+    }
+    END {
+        print "| shape | nodes | plan | fresh | fresh, then equal | kept 1 | kept 8 | kept 64 |"
+        print "|---|---|---|---|---|---|---|---|"
+        for (i = 1; i <= count; i++) {
+            line = "| " rows[i]
+            for (cell = 5; cell <= 11; cell++) if (cell != 6) line = line " | " middle(rows[i], cell)
+            print line " |"
+        }
+    }'
