@@ -48,6 +48,8 @@ fn folder(variable: &str, default: &str) -> PathBuf {
 fn link() {
     let folder = folder("TIGHT_LIB_DIR", "../target/staticlib");
     println!("cargo:rustc-link-search=native={}", folder.display());
+    // for the test that links the samples in C
+    println!("cargo:rustc-env=TIGHT_LIB_DIR={}", folder.display());
     for name in ["tight", "tight_file"] {
         let library = folder.join(format!("lib{name}.a"));
         println!("cargo:rerun-if-changed={}", library.display());

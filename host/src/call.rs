@@ -1,8 +1,65 @@
 //! The C functions over lent slices. Every content and length is allowed, as a slice tells its
 //! length and two of one call cannot overlap.
 
-/// The four numbers of an answer: 0 and what was found, or a refusal's number, place and body.
-pub type Answer = [u64; 4];
+/// The answer of a call on tables: one number, laid out as host/tight.h says.
+#[derive(Clone, Copy, Debug, PartialEq, Eq)]
+pub struct Answer(pub u64);
+
+impl Answer {
+    /// The answer of a refusal by number, place and body.
+    pub fn refused([number, place, body]: [u64; 3]) -> Self {
+        Self(number | place << 8 | body << 40)
+    }
+
+    pub fn planned(producers: usize) -> Self {
+        Self((producers as u64) << 8)
+    }
+
+    /// The answer of a check by its verdict's number, the root or atom that it names, and the nodes
+    /// visited.
+    pub fn checked([verdict, named, visited]: [u64; 3]) -> Self {
+        Self(verdict << 8 | named << 16 | visited << 40)
+    }
+
+    fn bits(self, from: u32, below: u32) -> u64 {
+        self.0 << (64 - below) >> (64 - below + from)
+    }
+
+    /// The refusal's number; 0 if the call was not refused.
+    pub fn refusal(self) -> u64 {
+        self.bits(0, 8)
+    }
+
+    /// Refused: the place.
+    pub fn place(self) -> u64 {
+        self.bits(8, 40)
+    }
+
+    /// Refused 11: the body.
+    pub fn body(self) -> u64 {
+        self.bits(40, 64)
+    }
+
+    /// Planned: the number of producers.
+    pub fn producers(self) -> usize {
+        self.bits(8, 40) as usize
+    }
+
+    /// Checked: the verdict's number.
+    pub fn verdict(self) -> u64 {
+        self.bits(8, 16)
+    }
+
+    /// Checked: the root or atom that the verdict names, else 0.
+    pub fn root_or_atom(self) -> u64 {
+        self.bits(16, 40)
+    }
+
+    /// Checked: the nodes visited.
+    pub fn visited(self) -> u64 {
+        self.bits(40, 64)
+    }
+}
 
 /// A theory's stamp and counts.
 #[derive(Clone, Copy, Debug, PartialEq, Eq)]
@@ -44,8 +101,11 @@ impl Counts {
             .all(|(&n, limit)| n <= limit)
     }
 
-    /// The listed lengths. Counts over the limits may overflow.
+    /// The least lengths; all 0 if a limit is passed, as a call then looks at no buffer.
     pub fn lengths(self) -> Lengths {
+        if !self.within_limits() {
+            return Lengths::default();
+        }
         let [a, n, o, r] = self.numbers();
         Lengths {
             candidate: a.div_ceil(64),
@@ -117,9 +177,7 @@ unsafe extern "C" {
         readers_len: usize,
         work: *mut u32,
         work_len: usize,
-        answer: *mut u64,
-        answer_len: usize,
-    );
+    ) -> u64;
 
     fn tight_certify(
         stamp: u32,
@@ -143,9 +201,7 @@ unsafe extern "C" {
         readers_len: usize,
         work: *mut u32,
         work_len: usize,
-        answer: *mut u64,
-        answer_len: usize,
-    );
+    ) -> u64;
 
     fn tight_check(
         stamp: u32,
@@ -170,16 +226,13 @@ unsafe extern "C" {
         readers_len: usize,
         kept: *mut u32,
         kept_len: usize,
-        answer: *mut u64,
-        answer_len: usize,
-    );
+    ) -> u64;
 }
 
 /// `tight_plan`: plans with derived ranks.
 pub fn plan(counts: Counts, tables: Tables<'_>, planned: Planned<'_>) -> Answer {
-    let mut answer = [0; 4];
     // SAFETY: each pointer is a slice's with its length; mutable slices overlap no other.
-    unsafe {
+    Answer(unsafe {
         tight_plan(
             counts.stamp,
             counts.atoms,
@@ -200,11 +253,8 @@ pub fn plan(counts: Counts, tables: Tables<'_>, planned: Planned<'_>) -> Answer 
             planned.readers.len(),
             planned.work.as_mut_ptr(),
             planned.work.len(),
-            answer.as_mut_ptr(),
-            answer.len(),
-        );
-    }
-    answer
+        )
+    })
 }
 
 /// `tight_certify`: plans with proposed ranks.
@@ -214,9 +264,8 @@ pub fn certify(
     proposed: &[u32],
     planned: Planned<'_>,
 ) -> Answer {
-    let mut answer = [0; 4];
     // SAFETY: as in `plan`.
-    unsafe {
+    Answer(unsafe {
         tight_certify(
             counts.stamp,
             counts.atoms,
@@ -239,15 +288,11 @@ pub fn certify(
             planned.readers.len(),
             planned.work.as_mut_ptr(),
             planned.work.len(),
-            answer.as_mut_ptr(),
-            answer.len(),
-        );
-    }
-    answer
+        )
+    })
 }
 
-/// `tight_check`: checks a candidate; `kept` holds the evaluation from one check to the next. The
-/// answer is written where the caller wants it: a copy would wait for the stores just made.
+/// `tight_check`: checks a candidate; `kept` holds the evaluation from one check to the next.
 #[inline]
 pub fn check(
     counts: Counts,
@@ -255,10 +300,9 @@ pub fn check(
     lent: Lent<'_>,
     candidate: CandidateWords<'_>,
     kept: &mut [u32],
-    answer: &mut Answer,
-) {
+) -> Answer {
     // SAFETY: as in `plan`.
-    unsafe {
+    Answer(unsafe {
         tight_check(
             counts.stamp,
             counts.atoms,
@@ -282,10 +326,8 @@ pub fn check(
             lent.readers.len(),
             kept.as_mut_ptr(),
             kept.len(),
-            answer.as_mut_ptr(),
-            answer.len(),
-        );
-    }
+        )
+    })
 }
 
 /// List number `slot` of a reader table: slots are the nodes, one unused, then the atoms.

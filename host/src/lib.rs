@@ -7,6 +7,8 @@ pub mod call;
 
 pub use call::Counts;
 
+use call::Answer;
+
 /// A refusal by its number in document 01, with its place.
 #[derive(Clone, Copy, Debug, PartialEq, Eq)]
 pub enum Refusal {
@@ -43,13 +45,13 @@ pub enum Refusal {
 }
 
 impl Refusal {
-    /// The refusal that an answer tells; none if its first number is 0.
+    /// The refusal that an answer tells, if it tells one.
     ///
     /// # Panics
-    /// If the number is none of document 01's.
-    pub fn of_answer(answer: call::Answer) -> Option<Self> {
-        let [number, place, body, _] = answer;
-        Some(match number {
+    /// If it is not laid out as the answer of one of these refusals.
+    pub fn of_answer(answer: Answer) -> Option<Self> {
+        let [number, place, body] = [answer.refusal(), answer.place(), answer.body()];
+        let refusal = match number {
             0 => return None,
             1 => Self::Kind { node: place },
             3 => Self::Limit { table: place },
@@ -66,8 +68,10 @@ impl Refusal {
             15 => Self::Stamp,
             16 => Self::Beyond { atom: place },
             17 => Self::Entry { node: place },
-            _ => panic!("refusal {number} is not in document 01"),
-        })
+            _ => panic!("{answer:?}: no call on tables has refusal {number}"),
+        };
+        assert_eq!(Answer::refused(refusal.numbers()), answer, "{refusal:?}");
+        Some(refusal)
     }
 
     /// Number, place and, for 11, the body.
@@ -110,7 +114,7 @@ pub enum Verdict {
 #[derive(Clone, Copy, Debug, PartialEq, Eq)]
 pub struct Check {
     pub verdict: Verdict,
-    /// Nodes gone over.
+    /// Nodes visited.
     pub nodes: u64,
 }
 
@@ -121,20 +125,48 @@ impl Check {
     /// The refusal that it tells.
     ///
     /// # Panics
-    /// If a number is none of document 01's.
-    pub fn of_answer(answer: call::Answer) -> Result<Self, Refusal> {
+    /// If it is not laid out as the answer of a check.
+    pub fn of_answer(answer: Answer) -> Result<Self, Refusal> {
         if let Some(refusal) = Refusal::of_answer(answer) {
             return Err(refusal);
         }
-        let [_, verdict, place, nodes] = answer;
-        let verdict = match verdict {
+        let named = answer.root_or_atom();
+        let verdict = match answer.verdict() {
             0 => Verdict::Stable,
-            1 => Verdict::NotModel { root: place },
-            2 => Verdict::Residual { atom: place },
-            _ => panic!("verdict {verdict} is not in document 01"),
+            1 => Verdict::NotModel { root: named },
+            2 => Verdict::Residual { atom: named },
+            number => panic!("{answer:?}: verdict {number} is not in document 01"),
         };
-        Ok(Self { verdict, nodes })
+        let nodes = answer.visited();
+        let check = Self { verdict, nodes };
+        assert_eq!(Answer::checked(check.numbers()), answer, "{check:?}");
+        Ok(check)
     }
+
+    /// The verdict's number, the root or atom that it names or 0, and the nodes visited.
+    pub fn numbers(self) -> [u64; 3] {
+        match self.verdict {
+            Verdict::Stable => [0, 0, self.nodes],
+            Verdict::NotModel { root } => [1, root, self.nodes],
+            Verdict::Residual { atom } => [2, atom, self.nodes],
+        }
+    }
+}
+
+/// The number of producers that the answer of a planning call tells.
+///
+/// # Errors
+/// The refusal that it tells.
+///
+/// # Panics
+/// If it is not laid out as the answer of a planning call.
+pub fn producers_of_answer(answer: Answer) -> Result<usize, Refusal> {
+    if let Some(refusal) = Refusal::of_answer(answer) {
+        return Err(refusal);
+    }
+    let producers = answer.producers();
+    assert_eq!(Answer::planned(producers), answer, "{producers} producers");
+    Ok(producers)
 }
 
 /// A node to append to a theory.
@@ -232,12 +264,7 @@ impl Theory {
 
     fn planned(&self, proposed: Option<&[u32]>) -> Result<Plan<'_>, Refusal> {
         let counts = self.counts();
-        // A theory over a limit is refused before any buffer is looked at.
-        let lengths = if counts.within_limits() {
-            counts.lengths()
-        } else {
-            call::Lengths::default()
-        };
+        let lengths = counts.lengths();
         let mut plan = Plan {
             theory: self,
             producer_count: 0,
@@ -255,11 +282,7 @@ impl Theory {
             None => call::plan(counts, self.tables(), planned),
             Some(ranks) => call::certify(counts, self.tables(), ranks, planned),
         };
-        if let Some(refusal) = Refusal::of_answer(answer) {
-            return Err(refusal);
-        }
-        plan.producer_count =
-            usize::try_from(answer[1]).expect("a count of producers is within its buffer");
+        plan.producer_count = producers_of_answer(answer)?;
         Ok(plan)
     }
 }
@@ -394,8 +417,7 @@ impl Checker<'_> {
             ref readers,
             ..
         } = *self.plan;
-        let mut answer = [0; 4];
-        call::check(
+        Check::of_answer(call::check(
             theory.counts(),
             theory.tables(),
             call::Lent {
@@ -409,9 +431,7 @@ impl Checker<'_> {
                 words: &candidate.words,
             },
             &mut self.kept,
-            &mut answer,
-        );
-        Check::of_answer(answer)
+        ))
     }
 
     /// The kept evaluation's words.

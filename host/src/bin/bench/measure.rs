@@ -10,7 +10,7 @@ use crate::shapes::{self, Input};
 use std::hint::black_box;
 use std::time::{Duration, Instant};
 use tight::call::{self, Answer, CandidateWords, Lent, Planned};
-use tight::{Check, Producer, Verdict};
+use tight::{Check, Producer, Verdict, producers_of_answer};
 
 /// Medians of both sides, in nanoseconds.
 #[derive(Clone, Copy, Debug)]
@@ -77,7 +77,6 @@ struct Ours {
     readers: Vec<u64>,
     work: Vec<u32>,
     kept: Vec<u32>,
-    answer: Answer,
 }
 
 impl Ours {
@@ -93,11 +92,8 @@ impl Ours {
             readers: vec![0; lengths.readers],
             work: vec![0; lengths.work],
             kept: vec![0; lengths.kept],
-            answer: [0; 4],
         };
-        let answer = ours.plan();
-        assert_eq!(answer[0], 0, "a theory that is planned");
-        ours.producer_count = answer[1] as usize;
+        ours.producer_count = producers_of_answer(ours.plan()).expect("a theory that is planned");
         ours
     }
 
@@ -111,7 +107,7 @@ impl Ours {
         call::plan(self.tables.counts, self.tables.tables(), planned)
     }
 
-    fn check(&mut self, candidate: &Candidate) -> &Answer {
+    fn check(&mut self, candidate: &Candidate) -> Answer {
         let lent = Lent {
             stamp: STAMP,
             producer_count: self.producer_count,
@@ -122,10 +118,8 @@ impl Ours {
             stamp: STAMP,
             words: &candidate.words,
         };
-        let tables = self.tables.tables();
-        let (kept, answer) = (&mut self.kept, &mut self.answer);
-        call::check(self.tables.counts, tables, lent, candidate, kept, answer);
-        answer
+        let (counts, tables) = (self.tables.counts, self.tables.tables());
+        call::check(counts, tables, lent, candidate, &mut self.kept)
     }
 
     /// Holds no check any more.
@@ -228,7 +222,7 @@ impl Both {
 
     /// The check of one candidate by both sides, which must agree.
     fn agreed(&mut self, candidate: &Candidate, interpretation: &Interpretation) -> Check {
-        let check = Check::of_answer(*self.ours.check(candidate)).expect("an accepted check");
+        let check = Check::of_answer(self.ours.check(candidate)).expect("an accepted check");
         assert_eq!(check.verdict, self.theirs.check(interpretation), "verdict");
         check
     }
@@ -245,7 +239,7 @@ impl Both {
                 (build, admission)
             });
             let (mine, answer) = warmed(|| timed(|| ours.plan()));
-            assert_eq!(black_box(answer)[0], 0);
+            assert_eq!(black_box(answer).refusal(), 0);
             [mine, build, admission + build]
         });
         [built, admitted].map(|rust| Times { ours, rust })

@@ -6,7 +6,7 @@ use crate::reference::tight::TightPlan;
 use crate::{rust, stable};
 use std::fmt::{self, Debug};
 use tight::call::{self, Answer, CandidateWords, Lent, Planned, Tables};
-use tight::{Check, Counts, Producer, Refusal, Verdict};
+use tight::{Check, Counts, Producer, Refusal, Verdict, producers_of_answer};
 
 /// The calls that are compared; the tests put faulty ones in their place.
 pub trait Subject {
@@ -55,9 +55,7 @@ impl Subject for Library {
         candidate: CandidateWords<'_>,
         kept: &mut [u32],
     ) -> Answer {
-        let mut answer = [0; 4];
-        call::check(counts, tables, lent, candidate, kept, &mut answer);
-        answer
+        call::check(counts, tables, lent, candidate, kept)
     }
 
     fn run(&self, file: &[u8], out: &mut [u8]) -> usize {
@@ -220,17 +218,11 @@ pub fn plan_call(
     if work.iter().any(|&word| word != 0) {
         differ("work area (document 01)", "a word of it is not 0")?;
     }
-    let refusal = Refusal::of_answer(answer);
-    let count = if refusal.is_some() {
-        0
-    } else {
-        answer[1] as usize
-    };
+    let told = producers_of_answer(answer);
     let [a, n] = [encoded.counts.atoms, encoded.counts.nodes];
-    let [written_ranks, written_readers] = if refusal.is_some() {
-        [0, 0]
-    } else {
-        [a, readers[n + 1 + a] as usize]
+    let [count, written_ranks, written_readers] = match told {
+        Ok(count) => [count, a, readers[n + 1 + a] as usize],
+        Err(_) => [0; 3],
     };
     let altered = |words: &[u32], from: usize| words.iter().skip(from).any(|&word| word != JUNK);
     if altered(&producers, 4 * count)
@@ -246,15 +238,12 @@ pub fn plan_call(
             format!("answer {answer:?}: a word is altered"),
         )?;
     }
-    Ok(match refusal {
-        Some(refusal) => Err(refusal),
-        None => Ok(Written {
-            producer_count: count,
-            producers,
-            ranks,
-            readers,
-        }),
-    })
+    Ok(told.map(|producer_count| Written {
+        producer_count,
+        producers,
+        ranks,
+        readers,
+    }))
 }
 
 impl Written {

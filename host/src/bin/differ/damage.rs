@@ -5,7 +5,7 @@ use crate::drawing::{Candidate, Case, Encoded, STAMP};
 use crate::random::Random;
 use crate::{document, generate};
 use tight::call::{CandidateWords, LIMITS, Lent, Planned, Tables};
-use tight::{Check, Counts, Refusal};
+use tight::{Check, Counts, Refusal, producers_of_answer};
 
 /// What the buffers hold before a call.
 const JUNK: u32 = 0x5a5a_a5a5;
@@ -176,11 +176,7 @@ impl Damaged {
 
     /// Number of producers, or the refusal, that document 01 gives a planning call.
     fn planned(&self) -> Result<usize, Refusal> {
-        let listed = if self.counts.within_limits() {
-            self.counts.lengths()
-        } else {
-            tight::call::Lengths::default()
-        };
+        let listed = self.counts.lengths();
         let after = [
             (4, listed.producers, self.lengths.producers),
             (5, listed.ranks, self.lengths.ranks),
@@ -211,10 +207,7 @@ impl Damaged {
             None => subject.plan(self.counts, self.lent(), planned),
             Some(ranks) => subject.certify(self.counts, self.lent(), ranks, planned),
         };
-        let ours = match Refusal::of_answer(answer) {
-            Some(refusal) => Err(refusal),
-            None => Ok(answer[1] as usize),
-        };
+        let ours = producers_of_answer(answer);
         agree("damaged plan", "document 01", &ours, &self.planned())?;
         let zero = work.iter().all(|&word| word == 0);
         agree("work area", "document 01", &zero, &true)?;
@@ -252,11 +245,7 @@ impl Damaged {
             producers: &producers,
             readers: &readers,
         };
-        let listed = if self.counts.within_limits() {
-            self.counts.lengths()
-        } else {
-            tight::call::Lengths::default()
-        };
+        let listed = self.counts.lengths();
         let before = [(0, listed.candidate, self.candidate.words.len())];
         let after = [
             (4, listed.producers, producers.len()),

@@ -75,10 +75,10 @@ impl Subject for Fault {
         };
         let mut answer = Library.plan(counts, tables, lent);
         match self {
-            Fault::Cycle if answer[0] == 12 => answer[1] += 1,
-            Fault::Rank if answer[0] == 0 && counts.atoms > 1 => ranks[1] += 1,
-            Fault::Kind if answer[0] == 0 && answer[1] > 0 => producers[3] = 0,
-            Fault::Readers if answer[0] == 0 => {
+            Fault::Cycle if answer.refusal() == 12 => answer.0 += 1 << 8,
+            Fault::Rank if answer.refusal() == 0 && counts.atoms > 1 => ranks[1] += 1,
+            Fault::Kind if answer.refusal() == 0 && answer.producers() > 0 => producers[3] = 0,
+            Fault::Readers if answer.refusal() == 0 => {
                 let start = readers[0] as usize;
                 let end = readers[1] as usize;
                 if end - start >= 2 {
@@ -86,8 +86,8 @@ impl Subject for Fault {
                 }
             }
             Fault::Work => work[15] = 1,
-            Fault::Empty if answer[0] == 6 => answer[0] = 5,
-            Fault::Behind if answer[0] == 0 => ranks[counts.atoms] = 0,
+            Fault::Empty if answer.refusal() == 6 => answer.0 -= 1,
+            Fault::Behind if answer.refusal() == 0 => ranks[counts.atoms] = 0,
             _ => {}
         }
         answer
@@ -113,7 +113,7 @@ impl Subject for Fault {
             work: &mut *work,
         };
         let answer = Library.certify(counts, tables, proposed, lent);
-        if *self == Fault::Order && answer[0] == 14 {
+        if *self == Fault::Order && answer.refusal() == 14 {
             let lent = Planned {
                 producers,
                 ranks,
@@ -140,16 +140,18 @@ impl Subject for Fault {
         }
         let was_kept = kept[0] == 1;
         let mut answer = Library.check(counts, tables, lent, candidate, kept);
+        let (accepted, visited) = (answer.refusal() == 0, answer.visited());
         match self {
-            Fault::Stable if answer[0] == 0 => answer[1..3].fill(0),
-            Fault::Root if answer[..2] == [0, 1] => {
-                answer[2] = (*tables.roots.last().expect("a false root")).into();
+            Fault::Stable if accepted => answer = Answer::checked([0, 0, visited]),
+            Fault::Root if accepted && answer.verdict() == 1 => {
+                let last = *tables.roots.last().expect("a false root");
+                answer = Answer::checked([1, last.into(), visited]);
             }
-            Fault::Count if answer[0] == 0 && was_kept => answer[3] += 1,
-            Fault::Support if answer[0] == 0 && was_kept => {
+            Fault::Count if accepted && was_kept => answer.0 += 1 << 40,
+            Fault::Support if accepted && was_kept => {
                 kept[8 + counts.nodes + counts.nodes.div_ceil(32)] += 1;
             }
-            Fault::Forgets if answer[0] != 0 => kept[0] = 0,
+            Fault::Forgets if !accepted => kept[0] = 0,
             _ => {}
         }
         answer
@@ -212,7 +214,7 @@ fn damage_reaches_every_refusal() {
     struct Seen(std::cell::RefCell<Vec<u64>>);
     impl Seen {
         fn saw(&self, answer: Answer) -> Answer {
-            self.0.borrow_mut().push(answer[0]);
+            self.0.borrow_mut().push(answer.refusal());
             answer
         }
     }
