@@ -160,7 +160,7 @@ fn store_all(file: &[u8], nodes: &mut [u32], operands: &mut [u32], roots: &mut [
     }
 }
 
-// A sound file, as judged: 9, or else the tables.
+// A sound file, as judged: 9, or else the tables. Between crates: a caller has the summary from `record::judge`.
 pub fn load_sound(
     file: &[u8],
     s: Summary,
@@ -207,6 +207,7 @@ fn clear(words: &mut [u64], n: usize)
 }
 
 // The candidate that begins at `at`, as a set of atoms, by the reader of crate `file_reader`; answers where the next record begins.
+// Between crates: a caller has the place from a sound file (`sound-candidates`).
 pub fn candidate(file: &[u8], at: usize, atoms: usize, words: &mut [u64]) -> usize
     requires { ⌜ CandidateAt (now file) atoms at × (atoms ≤ 65536) × (wordCount atoms ≤ length (now words)) ⌝ }
     ensures { λ r. ⌜ (r ≡ recordEnd (now (file .entry)) at Mark.Candidate) × (now (words .exit) ≡ candidateWords atoms (valuesOf (now (file .entry)) at Mark.Candidate) ++ drop (wordCount atoms) (now (words .entry))) ⌝ }
