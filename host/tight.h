@@ -7,7 +7,9 @@
    that a call writes (its pointer is not const) overlaps no other slice of the call.
    Every call accepts every content and length, ends, and writes nothing but what is named here.
    The libraries write no memory of their own: calls on different threads may run at the same time,
-   as long as no slice that one of them writes is lent to another. */
+   as long as no slice that one of them writes is lent to another.
+   tight_plan, tight_certify and tight_check take about 1 KiB of stack each (1,024 bytes at most,
+   measured), so that the least stack of a thread, 16 KiB, is enough. */
 #ifndef TIGHT_H
 #define TIGHT_H
 

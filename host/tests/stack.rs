@@ -1,76 +1,81 @@
-//! A run takes less than 200 KiB of stack, whatever the file. On a thread with too little of it the process dies.
+//! The stack that tight.h promises for the calls on tables: the least one of a thread is enough.
 
-use std::thread::Builder;
-use tight::call;
+use std::thread;
+use tight::call::{CandidateWords, Counts, Lent, Planned, Tables, certify, check, plan};
 
-const STACK: usize = 200 * 1024;
+/// The least stack of a thread (`PTHREAD_STACK_MIN`).
+const STACK: usize = 16 * 1024;
 
-fn number(value: u32) -> [u8; 4] {
-    value.to_le_bytes()
-}
-
-fn candidate(atoms: &[u32]) -> Vec<u8> {
-    let mut record = b"CA".to_vec();
-    record.extend(number(
-        u32::try_from(atoms.len()).expect("a candidate's count"),
-    ));
-    record.extend(atoms.iter().flat_map(|&atom| number(atom)));
-    record
-}
-
-/// 512 atoms, each but the first from the one before, and as many candidates as a file has room for.
-fn large() -> Vec<u8> {
-    let mut file = b"TH".to_vec();
-    file.extend([number(7), number(512)].concat());
-    for atom in 0..512 {
-        file.extend([b"NA", &number(atom)[..]].concat());
-    }
-    for atom in 0..511 {
-        file.extend([b"NI", &number(atom)[..], &number(atom + 1)].concat());
-    }
-    for root in 512..1023 {
-        file.extend([b"RT", &number(root)[..]].concat());
-    }
-    let all: Vec<u32> = (0..512).collect();
-    for atoms in [&all[..], &all[..1], &[]].into_iter().cycle() {
-        let record = candidate(atoms);
-        if file.len() + record.len() > 65_536 {
-            break;
-        }
-        file.extend(record);
-    }
-    file
-}
-
-/// A text longer than the run's own array for it: it is counted, then made again in the output.
-fn long_text() -> Vec<u8> {
-    let mut file = b"TH".to_vec();
-    file.extend([number(7), number(0)].concat());
-    for _ in 0..10_000 {
-        file.extend(candidate(&[]));
-    }
-    file
-}
-
-fn text_on_small_stack(file: Vec<u8>) -> Vec<u8> {
-    let run = move || {
-        let mut out = vec![0; 262_144];
-        let length = call::run(&file, &mut out);
-        out.truncate(length);
-        out
+/// Each atom from the one before it, at the most atoms, and an And over some of them.
+fn chain() -> (Counts, [Vec<u32>; 3]) {
+    let atoms = 65_536;
+    let mut nodes: Vec<u32> = (0..atoms).flat_map(|atom| [0, atom, 0]).collect();
+    nodes.extend((1..atoms).flat_map(|head| [2, head - 1, head]));
+    nodes.extend([3, 0, 1000]);
+    let operands: Vec<u32> = (0..1000).collect();
+    let roots: Vec<u32> = (atoms..2 * atoms - 1).chain([0]).collect();
+    let counts = Counts {
+        stamp: 7,
+        atoms: atoms as usize,
+        nodes: nodes.len() / 3,
+        operands: operands.len(),
+        roots: roots.len(),
     };
-    let thread = Builder::new().stack_size(STACK).spawn(run);
-    thread.expect("a thread").join().expect("a text")
+    (counts, [nodes, operands, roots])
+}
+
+/// Runs on a thread with the least stack; a call that needs more ends the process.
+fn on_least_stack<T: Send>(run: impl FnOnce() -> T + Send) -> T {
+    thread::scope(|scope| {
+        let thread = thread::Builder::new().stack_size(STACK);
+        let thread = thread.spawn_scoped(scope, run).expect("a thread");
+        thread.join().expect("no panic")
+    })
 }
 
 #[test]
-fn large_file() {
-    let text = text_on_small_stack(large());
-    assert!(text.starts_with(b"th 7 atoms 512 nodes 1023 roots 511 producers 511\nranks 0 1 2 "));
-}
-
-#[test]
-fn text_past_the_array() {
-    let text = text_on_small_stack(long_text());
-    assert!(text.ends_with(b"\n9999 stable - 0\n"));
+fn calls_on_tables_run_on_the_least_stack() {
+    let (counts, [nodes, operands, roots]) = chain();
+    let tables = Tables {
+        nodes: &nodes,
+        operands: &operands,
+        roots: &roots,
+    };
+    let lengths = counts.lengths();
+    let (mut producers, mut ranks) = (vec![0; lengths.producers], vec![0; lengths.ranks]);
+    let (mut readers, mut work) = (vec![0; lengths.readers], vec![0; lengths.work]);
+    let mut proposed: Option<Vec<u32>> = None;
+    for _ in 0..2 {
+        let planned = Planned {
+            producers: &mut producers,
+            ranks: &mut ranks,
+            readers: &mut readers,
+            work: &mut work,
+        };
+        let answer = on_least_stack(|| match &proposed {
+            None => plan(counts, tables, planned),
+            Some(ranks) => certify(counts, tables, ranks, planned),
+        });
+        assert_eq!((answer.refusal(), answer.producers()), (0, counts.roots));
+        proposed = Some(ranks.clone());
+    }
+    let lent = Lent {
+        stamp: 7,
+        producer_count: counts.roots,
+        producers: &producers,
+        readers: &readers,
+    };
+    let mut kept = vec![0; lengths.kept];
+    let mut words = vec![u64::MAX; lengths.candidate];
+    for visited in [counts.nodes, 0, 4] {
+        if visited == 4 {
+            words[0] ^= 2;
+        }
+        let candidate = CandidateWords {
+            stamp: 7,
+            words: &words,
+        };
+        let answer = on_least_stack(|| check(counts, tables, lent, candidate, &mut kept));
+        assert_eq!((answer.refusal(), answer.visited()), (0, visited as u64));
+    }
 }

@@ -107,6 +107,7 @@ pub struct Tally {
     pub fresh: u64,
     pub kept: u64,
     pub refused_checks: u64,
+    pub lost_roots: u64,
     pub stable: u64,
     pub notmodel: u64,
     pub residual: u64,
@@ -130,6 +131,7 @@ impl Tally {
         self.fresh += other.fresh;
         self.kept += other.kept;
         self.refused_checks += other.refused_checks;
+        self.lost_roots += other.lost_roots;
         self.stable += other.stable;
         self.notmodel += other.notmodel;
         self.residual += other.residual;
@@ -150,7 +152,7 @@ impl fmt::Display for Tally {
             f,
             "theories {} (accepted {}, unsupported {}, cycles {}), proposals {} (accepted {}), \
              checks {} (fresh {}, kept {}, refused {}; stable {}, notmodel {}, residual {}), \
-             brute force {}, damaged {}, \
+             roots lost {}, brute force {}, damaged {}, \
              files {} (accepted {}, refused by 1 to 8 {}, by 9 {}, by 10 to 12 {}; checks {})",
             self.theories,
             self.accepted,
@@ -165,6 +167,7 @@ impl fmt::Display for Tally {
             self.stable,
             self.notmodel,
             self.residual,
+            self.lost_roots,
             self.brute_force,
             self.damaged,
             self.files,
@@ -418,17 +421,24 @@ struct Series<'a, S> {
 
 impl<S: Subject> Series<'_, S> {
     fn call(&self, candidate: &Candidate, kept: &mut [u32]) -> Result<Check, Refusal> {
+        self.call_on(self.encoded.tables(), candidate, kept)
+    }
+
+    fn call_on(
+        &self,
+        tables: Tables<'_>,
+        candidate: &Candidate,
+        kept: &mut [u32],
+    ) -> Result<Check, Refusal> {
         let candidate = CandidateWords {
             stamp: candidate.stamp(),
             words: &candidate.words,
         };
-        Check::of_answer(self.subject.check(
-            self.encoded.counts,
-            self.encoded.tables(),
-            self.lent,
-            candidate,
-            kept,
-        ))
+        let counts = self.encoded.counts;
+        let answer = self
+            .subject
+            .check(counts, tables, self.lent, candidate, kept);
+        Check::of_answer(answer)
     }
 
     fn check(&mut self, candidate: &Candidate, tally: &mut Tally) -> Compared {
@@ -486,6 +496,10 @@ impl<S: Subject> Series<'_, S> {
         }
         compare_kept(self.encoded.counts, &self.kept, &self.checker)?;
         self.compare_fresh(candidate, ours.verdict)?;
+        if let Some(&position) = new.false_roots.first() {
+            tally.lost_roots += 1;
+            self.compare_lost(candidate, position, &before)?;
+        }
         match ours.verdict {
             Verdict::Stable => tally.stable += 1,
             Verdict::NotModel { .. } => tally.notmodel += 1,
@@ -502,6 +516,30 @@ impl<S: Subject> Series<'_, S> {
             )?;
         }
         self.last = Some(new);
+        Ok(())
+    }
+
+    /// The last check again, on the kept words before it, on those after it and on zeroed ones, while
+    /// the first false root, at this position, is no node: 17, place 0, and the kept words are zero.
+    fn compare_lost(&self, candidate: &Candidate, position: usize, before: &[u32]) -> Compared {
+        let listed = self.encoded.counts.lengths().kept;
+        let mut cleared = before.to_vec();
+        cleared[..listed].fill(0);
+        for root in [self.drawing.nodes.len() as u32, u32::MAX] {
+            let mut roots = self.encoded.roots.clone();
+            roots[position] = root;
+            let tables = Tables {
+                roots: &roots,
+                ..self.encoded.tables()
+            };
+            for words in [before, &self.kept, &cleared] {
+                let mut kept = words.to_vec();
+                let lost = self.call_on(tables, candidate, &mut kept);
+                let entry = Err(Refusal::Entry { node: 0 });
+                agree("root that is no node", "document 01", &lost, &entry)?;
+                agree("kept after 17", "document 01", &kept, &cleared)?;
+            }
+        }
         Ok(())
     }
 

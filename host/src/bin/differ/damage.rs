@@ -5,7 +5,7 @@ use crate::drawing::{Candidate, Case, Encoded, STAMP};
 use crate::random::Random;
 use crate::{document, generate};
 use tight::call::{CandidateWords, LIMITS, Lent, Planned, Tables};
-use tight::{Check, Counts, Refusal, producers_of_answer};
+use tight::{Check, Counts, Refusal, Verdict, producers_of_answer};
 
 /// What the buffers hold before a call.
 const JUNK: u32 = 0x5a5a_a5a5;
@@ -35,8 +35,34 @@ pub struct Damaged {
     proposed: Option<Vec<u32>>,
     candidate: Candidate,
     plan_stamp: u32,
-    /// Words written over the plan's and the kept words before the check: place and word.
-    rewritten: Vec<(u64, u32)>,
+    /// Words written over roots, plan and kept words before the first check or after it.
+    rewritten: Vec<Rewritten>,
+}
+
+/// A word written over all that a check reads of what was there before it, by its place in it.
+#[derive(Clone, Copy, Debug)]
+struct Rewritten {
+    after: bool,
+    place: u64,
+    word: u32,
+}
+
+impl Rewritten {
+    fn write(self, words: [&mut [u32]; 3], readers: &mut [u64]) {
+        let [roots, producers, kept] = words;
+        let lengths = [roots.len(), producers.len(), kept.len(), readers.len()];
+        let mut place = self.place as usize % lengths.iter().sum::<usize>().max(1);
+        for words in [roots, producers, kept] {
+            if let Some(word) = words.get_mut(place) {
+                *word = self.word;
+                return;
+            }
+            place -= words.len();
+        }
+        if let Some(reader) = readers.get_mut(place) {
+            *reader = self.word.into();
+        }
+    }
 }
 
 fn number(random: &mut Random) -> u32 {
@@ -125,7 +151,11 @@ impl Damaged {
                 14 => damaged.lengths.work = damaged.lengths.work.saturating_sub(less),
                 15 => damaged.lengths.kept = damaged.lengths.kept.saturating_sub(less),
                 16 => damaged.plan_stamp = number(random),
-                _ => damaged.rewritten.push((random.word(), number(random))),
+                _ => damaged.rewritten.push(Rewritten {
+                    after: random.chance(50),
+                    place: random.word(),
+                    word: number(random),
+                }),
             }
         }
         damaged
@@ -219,7 +249,7 @@ impl Damaged {
         self.check(subject, ours.unwrap_or(0), producers, readers)
     }
 
-    /// A check on what the plan left: its tests before 17, and what holds of it on any words.
+    /// Two checks on what the plan left: their tests before 17, and what holds of them on any words.
     fn check(
         &self,
         subject: &impl Subject,
@@ -227,42 +257,26 @@ impl Damaged {
         mut producers: Vec<u32>,
         mut readers: Vec<u64>,
     ) -> Compared {
+        let mut roots = self.roots.clone();
         let mut kept = vec![0; self.lengths.kept];
-        for &(place, word) in &self.rewritten {
-            let lengths = [producers.len(), readers.len(), kept.len()];
-            let place = place as usize % lengths.iter().sum::<usize>().max(1);
-            if place < lengths[0] {
-                producers[place] = word;
-            } else if place < lengths[0] + lengths[1] {
-                readers[place - lengths[0]] = word.into();
-            } else if let Some(kept) = kept.get_mut(place - lengths[0] - lengths[1]) {
-                *kept = word;
+        let refusal = self.check_refusal(producers.len(), readers.len());
+        for after in [false, true] {
+            for rewritten in self.rewritten.iter().filter(|word| word.after == after) {
+                rewritten.write([&mut roots, &mut producers, &mut kept], &mut readers);
             }
-        }
-        let lent = Lent {
-            stamp: self.plan_stamp,
-            producer_count,
-            producers: &producers,
-            readers: &readers,
-        };
-        let listed = self.counts.lengths();
-        let before = [(0, listed.candidate, self.candidate.words.len())];
-        let after = [
-            (4, listed.producers, producers.len()),
-            (6, listed.readers, readers.len()),
-            (7, listed.kept, kept.len()),
-        ];
-        let refusal = self.first_refusal(&before, &after).or_else(|| {
-            let mut candidate = self.candidate.clone();
-            candidate.words.truncate(listed.candidate);
-            document::candidate_refusal(self.counts.atoms, self.plan_stamp, &candidate)
-        });
-        for _ in 0..2 {
             let old = kept.clone();
             let answer = subject.check(
                 self.counts,
-                self.lent(),
-                lent,
+                Tables {
+                    roots: &roots,
+                    ..self.lent()
+                },
+                Lent {
+                    stamp: self.plan_stamp,
+                    producer_count,
+                    producers: &producers,
+                    readers: &readers,
+                },
                 CandidateWords {
                     stamp: self.candidate.stamp(),
                     words: &self.candidate.words,
@@ -273,20 +287,52 @@ impl Damaged {
             if let Some(refusal) = refusal {
                 agree("damaged check", "document 01", &ours, &Err(refusal))?;
                 agree("kept after a refusal", "document 01", &kept, &old)?;
-            } else if let Err(refusal) = ours {
-                let [number, ..] = refusal.numbers();
-                agree("damaged check", "document 01", &number, &17)?;
-                let cleared = kept[..listed.kept].iter().all(|&word| word == 0);
-                agree("kept after 17", "document 01", &cleared, &true)?;
+            } else {
+                self.any_words(ours, &kept, &old)?;
             }
-            let tail = listed.kept.min(kept.len());
-            agree(
-                "behind the kept words",
-                "document 01",
-                &kept[tail..],
-                &old[tail..],
-            )?;
         }
         Ok(())
+    }
+
+    /// What the tests of a check before 17 refuse.
+    fn check_refusal(&self, producers: usize, readers: usize) -> Option<Refusal> {
+        let listed = self.counts.lengths();
+        let before = [(0, listed.candidate, self.candidate.words.len())];
+        let after = [
+            (4, listed.producers, producers),
+            (6, listed.readers, readers),
+            (7, listed.kept, self.lengths.kept),
+        ];
+        self.first_refusal(&before, &after).or_else(|| {
+            let mut candidate = self.candidate.clone();
+            candidate.words.truncate(listed.candidate);
+            document::candidate_refusal(self.counts.atoms, self.plan_stamp, &candidate)
+        })
+    }
+
+    /// What holds of a check on any words that those tests let pass: it names what there is and
+    /// visits no more nodes than there are, or it is 17 and the kept words are zero.
+    fn any_words(&self, ours: Result<Check, Refusal>, kept: &[u32], old: &[u32]) -> Compared {
+        let (listed, behind) = kept.split_at(self.counts.lengths().kept);
+        match ours {
+            Ok(Check { verdict, nodes }) => {
+                let named = match verdict {
+                    Verdict::Stable => true,
+                    Verdict::NotModel { root } => root < self.counts.nodes as u64,
+                    Verdict::Residual { atom } => atom < self.counts.atoms as u64,
+                };
+                agree("a check names what there is", "document 01", &named, &true)?;
+                let visited = nodes <= self.counts.nodes as u64;
+                agree("nodes visited", "document 01", &visited, &true)?;
+            }
+            Err(refusal) => {
+                let [number, ..] = refusal.numbers();
+                agree("damaged check", "document 01", &number, &17)?;
+                let cleared = listed.iter().all(|&word| word == 0);
+                agree("kept after 17", "document 01", &cleared, &true)?;
+            }
+        }
+        let old = &old[listed.len()..];
+        agree("behind the kept words", "document 01", behind, old)
     }
 }

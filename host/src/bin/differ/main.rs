@@ -2,7 +2,8 @@
 //! time, and with Ferraris's definition.
 //!
 //! `differ SEED COUNT`: all small theories of a few shapes, COUNT random ones, series across the
-//! bound between kept and fresh, theories at the limits, COUNT damaged tables; then theory files:
+//! bound between kept and fresh, theories at the limits (after each notmodel also a check whose first
+//! false root is no node any more), COUNT damaged tables; then theory files:
 //! document 01's example with every byte changed and every end cut, COUNT sound ones and COUNT
 //! damaged ones, some near a run's room, some long. It stops at the first difference, tells the
 //! smallest input it found, and ends with a line of counts and status 1.

@@ -1,7 +1,8 @@
 //! The harness finds faults: each is found in random inputs and shrunk to a small one.
 
-use crate::compare::{Library, Subject, Tally, compare};
+use crate::compare::{Library, Subject, Tally, compare, plan_call};
 use crate::damage::Damaged;
+use crate::drawing::{Encoded, STAMP};
 use crate::file::{self, counted, encoded};
 use crate::random::Random;
 use crate::{EXAMPLE, document, generate, generate_file, run, rust, shrink};
@@ -38,11 +39,13 @@ enum Fault {
     Foreign,
     /// A refused check forgets the last one.
     Forgets,
+    /// A root that is no node is told as the theory's last node.
+    Lost,
     /// And or Or without operands is refused as a span; not in `FAULTS`, as only damage meets it.
     Empty,
 }
 
-const FAULTS: [Fault; 14] = [
+const FAULTS: [Fault; 15] = [
     Fault::Cycle,
     Fault::Rank,
     Fault::Kind,
@@ -57,6 +60,7 @@ const FAULTS: [Fault; 14] = [
     Fault::Support,
     Fault::Foreign,
     Fault::Forgets,
+    Fault::Lost,
 ];
 
 impl Subject for Fault {
@@ -133,9 +137,13 @@ impl Subject for Fault {
         mut candidate: CandidateWords<'_>,
         kept: &mut [u32],
     ) -> Answer {
+        let last = counts.nodes.saturating_sub(1) as u32;
+        let nodes: Vec<u32> = tables.roots.iter().map(|&root| root.min(last)).collect();
+        let mut tables = tables;
         match self {
             Fault::Fresh => kept[0] = 0,
             Fault::Foreign => candidate.stamp = counts.stamp,
+            Fault::Lost => tables.roots = &nodes,
             _ => {}
         }
         let was_kept = kept[0] == 1;
@@ -192,6 +200,46 @@ fn the_library_has_none() {
             .expect("no difference");
     }
     assert!(tally.accepted > 200 && tally.stable > 100 && tally.kept > 1000);
+}
+
+/// Document 01's example, {0} checked twice, and its second root no node the second time.
+#[test]
+fn a_root_lost_between_checks_is_17() {
+    let theory = file::TheoryFile::read(EXAMPLE).expect("a sound file");
+    let encoded = Encoded::new(&theory.drawing);
+    let written = plan_call(&Library, &encoded, None).expect("no difference");
+    let written = written.expect("planned");
+    let check = |roots: &[u32], kept: &mut [u32]| {
+        let lent = Lent {
+            stamp: STAMP,
+            producer_count: written.producer_count,
+            producers: &written.producers,
+            readers: &written.readers,
+        };
+        let candidate = CandidateWords {
+            stamp: STAMP,
+            words: &[1],
+        };
+        let tables = Tables {
+            roots,
+            ..encoded.tables()
+        };
+        Library.check(encoded.counts, tables, lent, candidate, kept)
+    };
+    let mut kept = vec![0; encoded.counts.lengths().kept];
+    let zeroed = kept.clone();
+    assert_eq!(check(&[5, 2], &mut kept), Answer::checked([1, 2, 6]));
+    assert_ne!(kept, zeroed);
+    assert_eq!(
+        check(&[5, u32::MAX], &mut kept),
+        Answer::refused([17, 0, 0])
+    );
+    assert_eq!(kept, zeroed);
+    assert_eq!(
+        check(&[5, u32::MAX], &mut kept),
+        Answer::refused([17, 0, 0])
+    );
+    assert_eq!(kept, zeroed);
 }
 
 #[test]
@@ -261,7 +309,7 @@ fn damage_reaches_every_refusal() {
 #[test]
 fn the_limits_are_reached() {
     let case = generate::at_limits(&mut Random::new(4));
-    let counts = crate::drawing::Encoded::new(&case.drawing).counts;
+    let counts = Encoded::new(&case.drawing).counts;
     assert_eq!(counts.numbers(), LIMITS);
     assert_eq!(generate::longest_chain().drawing.nodes.len(), LIMITS[1]);
 }
