@@ -68,7 +68,7 @@ fn show_checked(i: usize, checked: Checked) {
 
 // ---- kept or fresh
 
-// Of a theory of two nodes, Atom 0 and Atom 1, no candidate, then the one of these two words, in which `changed` atoms differ: atom 1 and not atom 0. A kept check visits node 1, a fresh one both.
+// A theory of two nodes, Atom 0 and Atom 1: a check of {}, then of the candidate of these two words, which has `changed` atoms, atom 1 and not atom 0 among them. A kept check visits node 1, a fresh one both.
 fn show_changes(atoms: usize, low: u64, high: u64, changed: usize) {
     let counts = Counts {
         stamp: 7,
@@ -168,9 +168,8 @@ fn length(listed: usize, number: usize, first: usize, last: usize) -> usize
     listed - 1
 }
 
-fn put_short(call: &[u8], first: usize, last: usize) {
-    put(call);
-    put(b", short ");
+fn put_short(first: usize, last: usize) {
+    put(b"check, short ");
     put_number(first);
     put(b" to ");
     put_number(last);
@@ -193,48 +192,17 @@ fn by(stamp: u32, producers: usize) -> Plan {
     Plan { stamp, producers }
 }
 
-// Buffers `first` to `last` are a word shorter than the slices.
-fn plan_short(
-    first: usize,
-    last: usize,
-    nodes: &[u32],
-    operands: &[u32],
-    roots: &[u32],
-    producers: &mut [u32],
-    ranks: &mut [u32],
-    readers: &mut [u64],
-    work: &mut [u32],
-) -> Planning {
-    let b1 = length(nodes.len(), 1, first, last);
-    let b2 = length(operands.len(), 2, first, last);
-    let b3 = length(roots.len(), 3, first, last);
-    let b4 = length(producers.len(), 4, first, last);
-    let b5 = length(ranks.len(), 5, first, last);
-    let b6 = length(readers.len(), 6, first, last);
-    let b8 = length(work.len(), 8, first, last);
-    plan::plan(
-        example(),
-        &nodes[..b1],
-        &operands[..b2],
-        &roots[..b3],
-        &mut producers[..b4],
-        &mut ranks[..b5],
-        &mut readers[..b6],
-        &mut work[..b8],
-    )
-}
-
-fn show_plan(first: usize, last: usize) {
+// Buffer 5 of 1 word for 2 atoms.
+fn show_planned() {
     let nodes = [0u32, 0, 0, 0, 1, 0, 2, 0, 1, 1, 0, 0, 2, 0, 3, 4, 0, 2];
     let operands = [0u32, 4];
     let roots = [5u32, 2];
     let mut producers = [0u32; 8];
-    let mut ranks = [0u32; 2];
+    let mut ranks = [0u32; 1];
     let mut readers = [0u64; 34];
     let mut work = [0u32; 86];
-    let planning = plan_short(
-        first,
-        last,
+    let planning = plan::plan(
+        example(),
         &nodes,
         &operands,
         &roots,
@@ -243,54 +211,21 @@ fn show_plan(first: usize, last: usize) {
         &mut readers,
         &mut work,
     );
-    put_short(b"plan", first, last);
+    put(b"plan, 1 rank of 2: ");
     show_planning(planning);
 }
 
-fn certify_short(
-    first: usize,
-    last: usize,
-    nodes: &[u32],
-    operands: &[u32],
-    roots: &[u32],
-    proposed: &[u32],
-    producers: &mut [u32],
-    ranks: &mut [u32],
-    readers: &mut [u64],
-    work: &mut [u32],
-) -> Planning {
-    let b1 = length(nodes.len(), 1, first, last);
-    let b2 = length(operands.len(), 2, first, last);
-    let b3 = length(roots.len(), 3, first, last);
-    let b4 = length(producers.len(), 4, first, last);
-    let b5 = length(ranks.len(), 5, first, last);
-    let b6 = length(readers.len(), 6, first, last);
-    let b8 = length(work.len(), 8, first, last);
-    plan::certify(
-        example(),
-        &nodes[..b1],
-        &operands[..b2],
-        &roots[..b3],
-        proposed,
-        &mut producers[..b4],
-        &mut ranks[..b5],
-        &mut readers[..b6],
-        &mut work[..b8],
-    )
-}
-
-fn show_certify(first: usize, last: usize) {
+fn show_certified() {
     let nodes = [0u32, 0, 0, 0, 1, 0, 2, 0, 1, 1, 0, 0, 2, 0, 3, 4, 0, 2];
     let operands = [0u32, 4];
     let roots = [5u32, 2];
     let proposed = [0u32, 1];
     let mut producers = [0u32; 8];
-    let mut ranks = [0u32; 2];
+    let mut ranks = [0u32; 1];
     let mut readers = [0u64; 34];
     let mut work = [0u32; 86];
-    let planning = certify_short(
-        first,
-        last,
+    let planning = plan::certify(
+        example(),
         &nodes,
         &operands,
         &roots,
@@ -300,10 +235,11 @@ fn show_certify(first: usize, last: usize) {
         &mut readers,
         &mut work,
     );
-    put_short(b"certify", first, last);
+    put(b"certify, 1 rank of 2: ");
     show_planning(planning);
 }
 
+// Buffers `first` to `last` are a word shorter than the slices.
 fn check_short(
     first: usize,
     last: usize,
@@ -356,20 +292,17 @@ fn show_check(first: usize, last: usize) {
         &readers,
         &mut kept,
     );
-    put_short(b"check", first, last);
+    put_short(first, last);
     show_checked(0, checked);
 }
 
 // Each buffer alone, then with all behind it.
 fn short_buffers() {
+    show_check(7, 7);
     let mut b = 0;
-    while b < 9 {
-        show_plan(b, b);
-        show_certify(b, b);
+    while b < 7 {
         show_check(b, b);
-        show_plan(b, 8);
-        show_certify(b, 8);
-        show_check(b, 8);
+        show_check(b, 7);
         b += 1;
     }
 }
@@ -659,6 +592,8 @@ fn kept_words() {
 
 fn main() {
     changes();
+    show_planned();
+    show_certified();
     short_buffers();
     lent();
     fresh();
