@@ -148,7 +148,8 @@ uint64_t tight_check(uint32_t stamp, size_t atoms, size_t node_count, size_t ope
                      size_t readers_len, uint32_t *kept, size_t kept_len);
 
 /* The text of a theory file, at the front of `out`; answers its length.
-   0 if it does not fit, and then `out` is unaltered. It takes about half a megabyte of stack. */
+   0 if it does not fit, and then `out` is unaltered; no text is empty. It takes less than 200 KiB of
+   stack (180 KiB measured). */
 size_t tight_run(const uint8_t *file, size_t file_len, uint8_t *out, size_t out_len);
 
 #ifdef __cplusplus
