@@ -9,7 +9,8 @@
 #   cp host/src/bin/bench/{main,shapes}.rs FOLDER/host/src/bin/bench/
 #   (cd FOLDER/host && cargo build --offline --release --bin bench)    # FOLDER/host/target/release/bench
 set -euo pipefail
-old=$1 new=$2 seconds=${3:-0.4}
+usage="usage: versus.sh OLD NEW [SECONDS [WORD]]"
+old=${1:?$usage} new=${2:?$usage} seconds=${3:-0.4}
 for shape in ${4:-chain wide heads load deep late}; do
     for nodes in 1024 16384 262144; do
         for _ in 1 2 3; do
