@@ -28,7 +28,7 @@ use Rattle.kept.specs.PlainWalk.{among}
 use Rattle.kept.specs.Consistent.{Consistent, readersIn, operands-lower}
 use Rattle.kept.specs.HeldLaws.{held-agree, worklist-agree, support-agree, roots-agree, node-told, root-told, producer-told, told-append}
 
-occurs-lower : (k m : ℕ) (xs : List ℕ) → Each (λ o. o < m) xs → 0 < occurrences k xs → k < m
+pub occurs-lower : (k m : ℕ) (xs : List ℕ) → Each (λ o. o < m) xs → 0 < occurrences k xs → k < m
 unfolding occurrences
 occurs-lower k m [] h l = absurd (omega arith)
 occurs-lower k m (x ∷ xs) h l = go (eqb x k) refl (occurs-lower k m xs (h .1)) l

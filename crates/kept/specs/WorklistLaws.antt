@@ -25,7 +25,7 @@ use Rattle.kept.specs.SetOf.{words32, setOf}
 use Rattle.kept.specs.SetOfLaws.{small-setOf, member-setOf, member-below, setOf-agree, setOf-inserted, setOf-removed, next-found}
 use Rattle.kept.specs.CountedSet.{countedSet, withBit}
 use Rattle.kept.specs.CountedSetLaws.{count-more, count-zero, counted-agree, bit-set, member-set}
-use Rattle.kept.specs.Worklist.{Worklist, behind, alone, withNode, filled, advanced, advance, nextFilled, withoutFirst, butLowest, worklistOf}
+use Rattle.kept.specs.Worklist.{Worklist, withFirst, behind, alone, withNode, filled, advanced, advance, nextFilled, withoutFirst, butLowest, worklistOf}
 
 -- ---- a worklist by its first node and the test of the others
 
@@ -260,3 +260,9 @@ first-left w n k l e h =
     (λ p. rw p (updated-here w k false))
     (λ p. updated-there w k false j p ∙ h j (omega (arith, p)))
     (equal-or j k)) (lowest-is (updated w k false) 0 n))
+
+-- none waits behind it
+pub first-alone : (w : ℕ → Bool) (n k : ℕ) → k < n → w k ≡ true → ((j : ℕ) → j < k → w j ≡ false)
+    → eqb (worklistOf w n .others .size) 0 ≡ true → withFirst (worklistOf w n) n ≡ worklistOf (updated w k false) n
+unfolding withoutFirst
+first-alone w n k l e h z = let p : some (withFirst (worklistOf w n) n) ≡ some (worklistOf (updated w k false) n) = rw z at (first-left w n k l e h) in cc
