@@ -6,7 +6,7 @@ use lib.ListN.{set, take}
 use Rattle.kept.specs.Verdict.{residual, stable}
 use Rattle.drawings.specs.Tables.{counts, exampleNodes, exampleOperands, exampleRoots, fiveNodes, fiveRoots, sixNodes, sixRoots}
 use Rattle.pinned.specs.Answer.{Answer, refused, planned, checked, load, plan, certify, check, zeros}
-use Rattle.pinned.specs.Bytes.{TH, NA, NI, NC, RT, CA, exampleFile}
+use Rattle.pinned.specs.Bytes.{TH, NA, NF, NI, NC, RT, CA, exampleFile}
 use Rattle.pinned.specs.Lent as lent
 use Rattle.pinned.specs.Lent.{Case, case, theory, room, example, enough, producers, readers, tables, candidate, afterNone}
 
@@ -47,6 +47,25 @@ rows =
     ∷ case (check lent.planned (candidate 7 (4 ∷ [])) (zeros 36)) (refused (16 ∷ 2 ∷ []))
     -- a root position of 9 of 2
     ∷ case (check lent.planned (candidate 7 (0 ∷ [])) (set (set afterNone 3 1) 19 512)) (refused (17 ∷ 0 ∷ []))
+    ∷ []
+
+-- a file is judged record by record, and a record in the order 1, 2, 3, 6, 4, 5, 7, 8; then 9
+unfoldable pub fileOrder : List Case
+fileOrder =
+    -- a node before TH, TH twice, a node behind a root, a root behind a candidate
+    case (load NF 18 2 2) (refused (1 ∷ 0 ∷ []))
+    ∷ case (load (TH (7 ∷ 2 ∷ []) ++ TH (7 ∷ 2 ∷ [])) 18 2 2) (refused (1 ∷ 1 ∷ []))
+    ∷ case (load (TH (7 ∷ 2 ∷ []) ++ NF ++ RT (0 ∷ []) ++ NF) 18 2 2) (refused (1 ∷ 3 ∷ []))
+    ∷ case (load (TH (7 ∷ 2 ∷ []) ++ NF ++ CA (0 ∷ []) ++ RT (0 ∷ [])) 18 2 2) (refused (1 ∷ 3 ∷ []))
+    -- an unknown mark and no more; a byte of a mark
+    ∷ case (load (78 ∷ 88 ∷ []) 18 2 2) (refused (1 ∷ 0 ∷ []))
+    ∷ case (load (TH (7 ∷ 2 ∷ []) ++ (78 ∷ [])) 18 2 2) (refused (2 ∷ 1 ∷ []))
+    -- TH 0 65537 without its last byte
+    ∷ case (load (take 9 (TH (0 ∷ 65537 ∷ []))) 18 2 2) (refused (2 ∷ 0 ∷ []))
+    -- CA 3 1 1 2 of 2 atoms
+    ∷ case (load (TH (7 ∷ 2 ∷ []) ++ CA (3 ∷ 1 ∷ 1 ∷ 2 ∷ [])) 18 2 2) (refused (4 ∷ 1 ∷ []))
+    -- two bad records, and no room for either
+    ∷ case (load (exampleFile ++ RT (6 ∷ []) ++ CA (2 ∷ 1 ∷ 1 ∷ [])) 0 0 0) (refused (7 ∷ 7 ∷ []))
     ∷ []
 
 -- of lent tables: 3 names the table, 1, 6, 4 and 5 the node, 7 the root position
