@@ -1,6 +1,6 @@
 -- Document 01's example: the lines of its checks C1 to C4 by the definitions, refusals among them; its tables are planned, so that demand 3 speaks of them.
 -- Assumes nothing.
-use Prim.Native.Nat.{ℕ, zero, suc, max, _<_, _+_, _*_, _^_, _/_}
+use Prim.Native.Nat.{ℕ, zero, suc, _<_, _+_, _*_, _^_}
 use native.Mathlib.Omega.{arith}
 use mathlib.Core.Path.{_≡_, refl}
 use mathlib.Core.List.{List, [], _∷_, _++_}
@@ -115,10 +115,6 @@ example : (shown
     × (outcome 64 8 rootless (of 7 1) (replicate 36 0 ++ (9 ∷ [])) ≡ record { answer = refused (BadEntry 0); words = replicate 36 0 ++ (9 ∷ []) })
 unfolding shown rootless heldZero spoilt astray beyond lines of exampleTables outcome outcomeAt tests limitsOf firstShort stamps strayBit atomsOf cleared written ofWords image flat cut result isKept changes keptResult freshResult tablesAdmission nodeEntry producerEntry rootEntry firstRefusal keptWalk walkStart atomUpdated atomTurned allEntered walk step stepAt seen seenBy nodeSeen groupSeen settled readersUpdated readerUpdated rootTurned missingBy supportMoved entered behind alone withNode filled advanced advance nextFilled withoutFirst butLowest worklistOf verdict judged verdictOf missingAtom held truth bodyTrue supports support falseRoot summary fresh operandsAt between listAt readingOf setOf allInserted countedSet moved withBit withMember lookup tabulate member inserted removed next bit places count lowest nodeAt span operandsOf nodeTruth nodeTruths allTrue anyTrue allBelow rising extended
 example = (refl, refl, refl, refl, refl, refl, refl)
-
--- the thresholds of 512 and 520 atoms
-thresholds : (max 64 (512 / 8) ≡ 64) × (max 64 (520 / 8) ≡ 65)
-thresholds = (refl, refl)
 
 -- ---- the tables are planned
 
