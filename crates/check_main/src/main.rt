@@ -68,8 +68,13 @@ fn show_checked(i: usize, checked: Checked) {
 
 // ---- kept or fresh
 
-// A theory of two nodes, Atom 0 and Atom 1: a check of {}, then of the candidate of these two words, which has `changed` atoms, atom 1 and not atom 0 among them. A kept check visits node 1, a fresh one both.
-fn show_changes(atoms: usize, low: u64, high: u64, changed: usize) {
+// A plan by its stamp and the number of its producers.
+fn by(stamp: u32, producers: usize) -> Plan {
+    Plan { stamp, producers }
+}
+
+// A theory of two nodes, Atom 0 and Atom 1: a check of {}, then of the candidate with atoms 1 to 63 and word 1, `changed` atoms in all. A kept check visits node 1, a fresh one both.
+fn show_changes(atoms: usize, word: u64, changed: usize) {
     let counts = Counts {
         stamp: 7,
         atoms,
@@ -93,37 +98,23 @@ fn show_changes(atoms: usize, low: u64, high: u64, changed: usize) {
         &mut readers,
         &mut work,
     );
-    show_change(counts, &nodes, &none, &readers, low, high, changed);
+    show_change(counts, &nodes, &none, &readers, word, changed);
 }
 
-fn show_change(
+// Of a candidate by its first two words.
+fn check_two(
     counts: Counts,
+    low: u64,
+    high: u64,
     nodes: &[u32],
     none: &[u32],
     readers: &[u64],
-    low: u64,
-    high: u64,
-    changed: usize,
-) {
-    let plan = by(7, 0);
-    let mut kept = [0u32; 1601];
-    let empty = [0u64; 9];
+    kept: &mut [u32],
+) -> Checked {
+    let candidate = [low, high, 0, 0, 0, 0, 0, 0, 0];
     evaluate::check(
         counts,
-        plan,
-        7,
-        &empty,
-        nodes,
-        none,
-        none,
-        none,
-        readers,
-        &mut kept,
-    );
-    let candidate = [low, high, 0, 0, 0, 0, 0, 0, 0];
-    let checked = evaluate::check(
-        counts,
-        plan,
+        by(7, 0),
         7,
         &candidate,
         nodes,
@@ -131,23 +122,36 @@ fn show_change(
         none,
         none,
         readers,
-        &mut kept,
-    );
+        kept,
+    )
+}
+
+fn show_change(
+    counts: Counts,
+    nodes: &[u32],
+    none: &[u32],
+    readers: &[u64],
+    word: u64,
+    changed: usize,
+) {
+    let mut kept = [0u32; 1601];
+    check_two(counts, 0, 0, nodes, none, readers, &mut kept);
+    let below = 0xffff_ffff_ffff_fffe;
+    let checked = check_two(counts, below, word, nodes, none, readers, &mut kept);
     put_number(counts.atoms);
     put(b" atoms: ");
     show_checked(changed, checked);
 }
 
 fn changes() {
-    // all of word 0 but atom 0 are 63 atoms
-    show_changes(512, 0xffff_ffff_ffff_fffe, 1, 64);
-    show_changes(512, 0xffff_ffff_ffff_fffe, 3, 65);
-    show_changes(520, 0xffff_ffff_ffff_fffe, 3, 65);
-    show_changes(520, 0xffff_ffff_ffff_fffe, 7, 66);
-    show_changes(527, 0xffff_ffff_ffff_fffe, 3, 65);
-    show_changes(527, 0xffff_ffff_ffff_fffe, 7, 66);
-    show_changes(66, 0xffff_ffff_ffff_fffe, 1, 64);
-    show_changes(66, 0xffff_ffff_ffff_fffe, 3, 65);
+    show_changes(512, 1, 64);
+    show_changes(512, 3, 65);
+    show_changes(520, 3, 65);
+    show_changes(520, 7, 66);
+    show_changes(527, 3, 65);
+    show_changes(527, 7, 66);
+    show_changes(66, 1, 64);
+    show_changes(66, 3, 65);
 }
 
 // ---- refusal 9
@@ -185,11 +189,6 @@ fn example() -> Counts {
         operands: 2,
         roots: 2,
     }
-}
-
-// A plan by its stamp and the number of its producers.
-fn by(stamp: u32, producers: usize) -> Plan {
-    Plan { stamp, producers }
 }
 
 // Buffer 5 of 1 word for 2 atoms.
@@ -454,7 +453,7 @@ fn show_left(label: &[u8], checked: Checked, kept: &[u32]) {
     show_checked(0, checked);
 }
 
-// The example as it was planned; a check of candidate `before` if it is one, a change, and a check of candidate `word`.
+// A check of candidate `before`, a change, and a check of candidate `word`, by the example as it was planned. A `before` that is refused leaves no check held.
 fn show_changed(
     label: &[u8],
     before: u64,
@@ -521,7 +520,7 @@ fn show_damaged(label: &[u8], before: u64, damage: Damage, word: u64) {
     );
 }
 
-// Candidate {1}. The one before it is refused (16), so that no check is held.
+// Candidate {1}; the one before it, 4, is refused (16).
 fn fresh() {
     show_damaged(b"fresh, node 3 of kind 5", 4, Damage::Node(9, 5), 2);
     show_damaged(b"fresh, node 1 Atom 2 of 2", 4, Damage::Node(4, 2), 2);

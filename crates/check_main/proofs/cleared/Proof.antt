@@ -2,8 +2,6 @@ use Prim.Native.Nat.{_-_, _≤_}
 use borrow.Author.Needs.{needs}
 use Rattle.check_main.proofs.cleared.Statement.{statement}
 use Rattle.check_main.proofs.cleared.Tie as tie
-use Rattle.check_main.proofs.cleared.Reads as reads
-use Rattle.check_main.proofs.cleared.Lts as lts
 
 abbrev Inv-loop : tie.InvT-loop
 Inv-loop words n i₀ i = i ≤ n
@@ -11,35 +9,27 @@ Inv-loop words n i₀ i = i ≤ n
 abbrev μ-loop : tie.MeasureT-loop
 μ-loop words n i₀ i = n - i
 
--- src/main.rt:499:5
 loop-holds : tie.Need-loop-holds Inv-loop μ-loop
 loop-holds c = search needs
 
--- src/main.rt:501:16
 mul-if2 : tie.Need-mul-if2 Inv-loop μ-loop
 mul-if2 c = search needs
 
--- src/main.rt:501:16
 shared-slice-read-if2 : tie.Need-shared-slice-read-if2 Inv-loop μ-loop
 shared-slice-read-if2 c = search needs
 
--- src/main.rt:502:17
 returns : tie.Need-returns Inv-loop μ-loop
 returns c = search needs
 
--- src/main.rt:505:9
 add-i : tie.Need-add-i Inv-loop μ-loop
 add-i c = search needs
 
--- src/main.rt:499:5
 loop-less : tie.Need-loop-less Inv-loop μ-loop
 loop-less c = search needs
 
--- src/main.rt:499:5
 loop-again : tie.Need-loop-again Inv-loop μ-loop
 loop-again c = search needs
 
--- src/main.rt:497:1
 returns-2 : tie.Need-returns-2 Inv-loop μ-loop
 returns-2 c = search needs
 
