@@ -48,6 +48,9 @@ fresh =
     ∷ entry (of exampleNodes exampleOperands (5 ∷ 6 ∷ []) producers readers) noCheck 2 0
     -- more producers than roots
     ∷ entry (tables (counts 2 6 2 2) 7 3 exampleNodes exampleOperands exampleRoots producers readers) noCheck 2 0
+    -- nodes are met rising, then producers: nodes 1 and 3 at once, node 3 and a head
+    ∷ entry (byNodes (set (set exampleNodes 9 5) 4 2)) noCheck 2 1
+    ∷ entry (of (set exampleNodes 9 5) exampleOperands exampleRoots (set producers 4 2) readers) noCheck 2 3
     ∷ []
 
 -- ---- a kept check, from {} to {1}: nodes 1 and 2; to {0}: nodes 0, 2, 4 and 5
@@ -63,6 +66,8 @@ kept =
     ∷ entry (of exampleNodes (0 ∷ 5 ∷ []) exampleRoots producers readers) afterZero 0 5
     -- node 5 Or of two from 1
     ∷ entry (byNodes (set exampleNodes 16 1)) afterNone 1 5
+    -- nodes 2 and 4 at once
+    ∷ entry (byNodes (set (set exampleNodes 12 5) 7 2)) afterNone 1 2
     -- node 1 is read by producer 1, whose head is outside the atoms; by producer 2 of 2; by root 2 of 2
     ∷ entry (of exampleNodes exampleOperands exampleRoots (set producers 4 2) (set readers 14 (2 * 2 ^ 62 + 1))) afterNone 2 1
     ∷ entry (byReaders (set readers 14 (2 * 2 ^ 62 + 2))) afterNone 2 1
