@@ -9,48 +9,31 @@ use Rattle.pinned.specs.Answer.{Answer, refused, loaded, planned, checke
 use Rattle.pinned.specs.Bytes.{RT, exampleFile}
 use Rattle.pinned.specs.Lent.{Case, case, theory, room, producers, readers, tables, candidate}
 
--- plan of the example, with so many words of buffers 1 to 6 and 8
-abbrev planBy : ℕ → ℕ → ℕ → ℕ → ℕ → ℕ → ℕ → Answer
+-- plan and certify of the example, with so many words of buffers 1 to 6 and 8
+abbrev pub planBy : ℕ → ℕ → ℕ → ℕ → ℕ → ℕ → ℕ → Answer
 planBy b1 b2 b3 b4 b5 b6 b8 = plan (theory (counts 2 6 2 2) (take b1 exampleNodes) (take b2 exampleOperands) (take b3 exampleRoots)) (room b4 b5 b6 b8)
 
-unfoldable pub planShort : List Case
-planShort =
-    case (planBy 18 2 2 8 2 34 86) (planned 2)
-    ∷ case (planBy 17 2 2 8 2 34 86) (refused (9 ∷ 1 ∷ []))
-    ∷ case (planBy 18 1 2 8 2 34 86) (refused (9 ∷ 2 ∷ []))
-    ∷ case (planBy 18 2 1 8 2 34 86) (refused (9 ∷ 3 ∷ []))
-    ∷ case (planBy 18 2 2 7 2 34 86) (refused (9 ∷ 4 ∷ []))
-    ∷ case (planBy 18 2 2 8 1 34 86) (refused (9 ∷ 5 ∷ []))
-    ∷ case (planBy 18 2 2 8 2 33 86) (refused (9 ∷ 6 ∷ []))
-    ∷ case (planBy 18 2 2 8 2 34 85) (refused (9 ∷ 8 ∷ []))
-    ∷ case (planBy 17 1 1 7 1 33 85) (refused (9 ∷ 1 ∷ []))
-    ∷ case (planBy 18 1 1 7 1 33 85) (refused (9 ∷ 2 ∷ []))
-    ∷ case (planBy 18 2 1 7 1 33 85) (refused (9 ∷ 3 ∷ []))
-    ∷ case (planBy 18 2 2 7 1 33 85) (refused (9 ∷ 4 ∷ []))
-    ∷ case (planBy 18 2 2 8 1 33 85) (refused (9 ∷ 5 ∷ []))
-    ∷ case (planBy 18 2 2 8 2 33 85) (refused (9 ∷ 6 ∷ []))
-    ∷ []
-
-abbrev certifyBy : ℕ → ℕ → ℕ → ℕ → ℕ → ℕ → ℕ → Answer
+abbrev pub certifyBy : ℕ → ℕ → ℕ → ℕ → ℕ → ℕ → ℕ → Answer
 certifyBy b1 b2 b3 b4 b5 b6 b8 =
     certify (theory (counts 2 6 2 2) (take b1 exampleNodes) (take b2 exampleOperands) (take b3 exampleRoots)) (0 ∷ 1 ∷ []) (room b4 b5 b6 b8)
 
-unfoldable pub certifyShort : List Case
-certifyShort =
-    case (certifyBy 18 2 2 8 2 34 86) (planned 2)
-    ∷ case (certifyBy 17 2 2 8 2 34 86) (refused (9 ∷ 1 ∷ []))
-    ∷ case (certifyBy 18 1 2 8 2 34 86) (refused (9 ∷ 2 ∷ []))
-    ∷ case (certifyBy 18 2 1 8 2 34 86) (refused (9 ∷ 3 ∷ []))
-    ∷ case (certifyBy 18 2 2 7 2 34 86) (refused (9 ∷ 4 ∷ []))
-    ∷ case (certifyBy 18 2 2 8 1 34 86) (refused (9 ∷ 5 ∷ []))
-    ∷ case (certifyBy 18 2 2 8 2 33 86) (refused (9 ∷ 6 ∷ []))
-    ∷ case (certifyBy 18 2 2 8 2 34 85) (refused (9 ∷ 8 ∷ []))
-    ∷ case (certifyBy 17 1 1 7 1 33 85) (refused (9 ∷ 1 ∷ []))
-    ∷ case (certifyBy 18 1 1 7 1 33 85) (refused (9 ∷ 2 ∷ []))
-    ∷ case (certifyBy 18 2 1 7 1 33 85) (refused (9 ∷ 3 ∷ []))
-    ∷ case (certifyBy 18 2 2 7 1 33 85) (refused (9 ∷ 4 ∷ []))
-    ∷ case (certifyBy 18 2 2 8 1 33 85) (refused (9 ∷ 5 ∷ []))
-    ∷ case (certifyBy 18 2 2 8 2 33 85) (refused (9 ∷ 6 ∷ []))
+-- of either
+unfoldable pub planningShort : (ℕ → ℕ → ℕ → ℕ → ℕ → ℕ → ℕ → Answer) → List Case
+planningShort call =
+    case (call 18 2 2 8 2 34 86) (planned 2)
+    ∷ case (call 17 2 2 8 2 34 86) (refused (9 ∷ 1 ∷ []))
+    ∷ case (call 18 1 2 8 2 34 86) (refused (9 ∷ 2 ∷ []))
+    ∷ case (call 18 2 1 8 2 34 86) (refused (9 ∷ 3 ∷ []))
+    ∷ case (call 18 2 2 7 2 34 86) (refused (9 ∷ 4 ∷ []))
+    ∷ case (call 18 2 2 8 1 34 86) (refused (9 ∷ 5 ∷ []))
+    ∷ case (call 18 2 2 8 2 33 86) (refused (9 ∷ 6 ∷ []))
+    ∷ case (call 18 2 2 8 2 34 85) (refused (9 ∷ 8 ∷ []))
+    ∷ case (call 17 1 1 7 1 33 85) (refused (9 ∷ 1 ∷ []))
+    ∷ case (call 18 1 1 7 1 33 85) (refused (9 ∷ 2 ∷ []))
+    ∷ case (call 18 2 1 7 1 33 85) (refused (9 ∷ 3 ∷ []))
+    ∷ case (call 18 2 2 7 1 33 85) (refused (9 ∷ 4 ∷ []))
+    ∷ case (call 18 2 2 8 1 33 85) (refused (9 ∷ 5 ∷ []))
+    ∷ case (call 18 2 2 8 2 33 85) (refused (9 ∷ 6 ∷ []))
     ∷ []
 
 -- a check of {1}, with so many words of buffers 0 to 4, 6 and 7
