@@ -575,6 +575,7 @@ fn kept_readers() {
 fn kept_words() {
     show_damaged(b"kept, no false root to leave", 1, Damage::Kept(3, 0), 3);
     show_damaged(b"kept, a third false root", 0, Damage::Kept(3, 2), 1);
+    show_damaged(b"kept, false root 6 of 6", 1, Damage::Root(1, 6), 1);
     show_damaged(
         b"kept, root position 9 of 2 false",
         1,

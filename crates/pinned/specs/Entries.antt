@@ -96,6 +96,9 @@ kept =
     ∷ entry planned (set (set afterNone 3 1) 19 512) 0 0
     ∷ entry planned (set (set afterNone 2 1) 18 512) 0 0
     ∷ entry planned (set afterNone 3 1) 0 0
+    -- after {0} the second root is the first false one, and is no node: 6, and the greatest number
+    ∷ entry (of exampleNodes exampleOperands (5 ∷ 6 ∷ []) producers readers) afterZero 1 0
+    ∷ entry (of exampleNodes exampleOperands (5 ∷ 4294967295 ∷ []) producers readers) afterZero 1 0
     -- the first waiting node is 7 of 6; node 9 of 6 waits
     ∷ entry planned (set afterNone 5 7) 0 0
     ∷ entry planned (set (set (set (set afterNone 4 1) 5 2) 14 512) 20 1) 0 0
