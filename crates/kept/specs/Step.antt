@@ -81,7 +81,7 @@ leaving n idle = idle
 leaving n (fault place) = fault place
 leaving n (took k e) = leftAt k e (withoutFirst n (e .worklist))
 
--- with its truth: off the worklist at once if none waits behind it; else it leaves once its readers are told, so that the search for the next one never passes a node that waits before it
+-- with its truth: off the worklist at once if none waits behind it; else it leaves once its readers are told, as the next one may be among those that enter
 abbrev pub settledFrom : Tables → ℕ → Evaluation → Option Bool → Stepped
 settledFrom T k e none = fault k
 settledFrom T k e (some t) =
