@@ -6,17 +6,19 @@ use mathlib.Core.Path.{_≡_, refl, sym, ap, fun-ext, _∙_}
 use mathlib.Core.Logic.{⊎-elim}
 use mathlib.Core.Bool.{true, false≢true}
 use mathlib.Core.List.{List, [], _∷_}
-use lib.Dec.{eqb, ltb}
+use lib.Dec.{eqb}
 use lib.ListN.{length}
 use lib.Seq.{take-all}
-use borrow.Author.Tests.{le-ltb, ltb-true, eqb-true, eq-eqb}
-use Rattle.base.specs.Tests.{below-or, either, both-left, both-right}
+use borrow.Author.Tests.{le-ltb, eqb-true, eq-eqb}
+use Rattle.base.specs.Tests.{below-or, either}
+use Rattle.base.specs.Each.{Each}
 use Rattle.base.specs.Places.{Lowest}
 use Rattle.words.specs.Sets.{member}
 use Rattle.words.specs.Next.{next}
 use Rattle.words.specs.NextLaws.{next-is}
 use Rattle.theory.specs.Admission.{allBelow}
 use Rattle.theory.specs.Limits.{limitsOf}
+use Rattle.theory.specs.Spans.{all-below-each}
 use Rattle.theory.specs.declared.Admission.the-variants.{Admitted}
 use Rattle.load.specs.Candidate.{candidateWords, among}
 use Rattle.load.proofs.Sets.{candidate-members}
@@ -29,14 +31,10 @@ use Rattle.kept.specs.Tests.{buffers, firstShort, stamps, strayBit, tests}
 use Rattle.run.specs.Text.{candidateOf}
 use Rattle.run.specs.CheckLaws.{length-candidate-words}
 
-below-among : (n : ℕ) (c : List ℕ) → allBelow n c ≡ true → (a : ℕ) → among a c ≡ true → a < n
-unfolding allBelow among
-below-among n [] b a e = absurd (false≢true e)
-below-among n (x ∷ c) b a e =
-    ⊎-elim
-    (λ p. let q : x ≡ a = eqb-true x a p in let l : x < n = ltb-true x n (both-left (ltb x n) (allBelow n c) b) in omega arith)
-    (λ p. below-among n c (both-right (ltb x n) (allBelow n c) b) a p)
-    (either (eqb x a) (among a c) e)
+pub each-among : (P : ℕ → Type 0) (c : List ℕ) → Each P c → (a : ℕ) → among a c ≡ true → P a
+unfolding among
+each-among P [] h a e = absurd (false≢true e)
+each-among P (x ∷ c) h a e = ⊎-elim (λ p. rw (eqb-true x a p) at (h .0)) (λ p. each-among P c (h .1) a p) (either (eqb x a) (among a c) e)
 
 -- what the tests before 17 ask of the tables, and of the kept words' length
 pub record Lent (T : Tables) (size : ℕ) : Type 0 where
@@ -72,7 +70,7 @@ module _ (T : Tables) (c : List ℕ) (b : allBelow (atomCount T) c ≡ true) whe
       clash l =
           let from : atomCount T ≤ next 64 ws (atomCount T) = low .from in
           let here : member 64 ws (next 64 ws (atomCount T)) ≡ true = low .here (omega arith) in
-          omega (arith, below-among (atomCount T) c b (next 64 ws (atomCount T)) (sym (candidate-members (atomCount T) c (next 64 ws (atomCount T)) b) ∙ here))
+          omega (arith, each-among (λ a. a < atomCount T) c (all-below-each (atomCount T) c b) (next 64 ws (atomCount T)) (sym (candidate-members (atomCount T) c (next 64 ws (atomCount T)) b) ∙ here))
 
   stamps-same : T .plan ≡ T .counts .stamp → stamps T (candidateOf T c) ≡ Admitted
   unfolding stamps candidateOf

@@ -11,9 +11,12 @@ use lib.ListN.{length, getD, take, drop, replicate, length-replicate, length-app
 use borrow.Author.Tests.{le-ltb}
 use Rattle.base.specs.Tests.{below-or}
 use Rattle.base.specs.Front.{front}
+use Rattle.base.specs.Each.{Each}
 use Rattle.formula.specs.Satisfaction.{Interpretation}
+use Rattle.formula.specs.Removable.{LowestRemovable}
 use Rattle.theory.specs.Admission.{allBelow}
 use Rattle.theory.specs.Limits.{Lent}
+use Rattle.theory.specs.NodeFormula.{theoryOf}
 use Rattle.theory.specs.declared.Admission.{Admission}
 use Rattle.theory.specs.declared.Admission.the-variants as admission
 use Rattle.theory.specs.declared.Counts.{Counts}
@@ -25,7 +28,7 @@ use Rattle.record.specs.declared.Summary.{Summary}
 use Rattle.record.specs.declared.Judged.the-variants as judgment
 use Rattle.encoding.specs.Value.{TheoryFile}
 use Rattle.encoding.specs.Held.{contentsOf, countsOf, summaryOf}
-use Rattle.encoding.specs.Sound.{Below}
+use Rattle.encoding.specs.Sound.{Below, SoundCandidate, Sound}
 use Rattle.encoding.specs.Theory.{theory}
 use Rattle.encoding.proofs.Encoding.{read-encoded, sound-encoded}
 use Rattle.encoding.proofs.Theory.{roots-held, root-formulas-held}
@@ -55,17 +58,18 @@ use Rattle.kept.specs.Outcome.{Answer, accepted, refused as kept-refused}
 use Rattle.kept.specs.Tests.{tests}
 use Rattle.kept.specs.Series.{answerTo, isAccepted, lastAccepted, SeriesCheck}
 use Rattle.series.proofs.Planned.{plan-planned}
-use Rattle.text.specs.Decimal.{decimal}
+use Rattle.text.specs.Decimal.{decimal, Digit, value}
 use Rattle.text.specs.Lines.{stableWord, notModelWord, residualWord, theoryLine, ranksLine, spaced, verdictText, verdictLine, refusedLine}
+use Rattle.text.proofs.Decimal.{value-decimal, decimal-digits, digits-end}
 use Rattle.run.specs.Text.{candidateOf, checkLine, ownPlan, ownTables, candidatesOf, candidatesIn, textOf}
 use Rattle.run.specs.Planned.{tablesLoaded, planMade, tablesLent, PlannedFile, wordsLent}
 use Rattle.run.specs.TextLaws.{loaded-own, too-many-atoms, load-refused, plan-refused, load-sound, file-sound, file-refused, too-long as too-long-text}
 use Rattle.run.specs.CheckLaws.{file-candidates}
 use Rattle.run.proofs.Demand3.{run-text, run-check}
-use Rattle.demands.specs.Told.{Encodes, LineTells, Says, WordTells, Unplannable, Told, too-long, unsound, many-atoms, many-nodes, many-operands, many-roots, unplanned, judged}
+use Rattle.demands.specs.Told.{Encodes, LineTells, Says, residualOf, WordTells, Unplannable, Told, too-long, unsound, many-atoms, many-nodes, many-operands, many-roots, unplanned, judged}
 use Rattle.demands.proofs.Unplannable.{unplannable}
 use Rattle.demands.proofs.Candidates as candidates
-use Rattle.demands.proofs.Candidates.{atoms-are, passes}
+use Rattle.demands.proofs.Candidates.{each-among, atoms-are, passes}
 use Rattle.demands.proofs.Lines.{linesOf, flat-lines, length-lines, line-at, parts-at, length-series}
 
 -- ---- the buffers that a plan leaves are as long as they were lent
@@ -176,6 +180,12 @@ module _ (file : List ℕ) (f : TheoryFile) (enc : Encodes file f) where
         let same = loaded-theory file s t ownTables holds (made .loaded) in
         rw (same .formulas, same .root-nodes, root-formulas-held f, roots-held f) at d
 
+    shows-of-file : (I : Interpretation) (a : ℕ) → LowestRemovable I (theoryOf (s .counts) (T .nodes) (T .operands) (T .roots)) a → LowestRemovable I (theory f) a
+    unfolding summaryOf
+    shows-of-file I a w =
+        let same = loaded-theory file s t ownTables holds (made .loaded) in
+        rw (same .formulas, same .root-nodes, root-formulas-held f) at w
+
     lent : candidates.Lent T 4112
     unfolding ownPlan
     lent =
@@ -230,6 +240,9 @@ module _ (file : List ℕ) (f : TheoryFile) (enc : Encodes file f) where
                 says = let z : 0 + i ≡ i = omega arith in line-at T 0 i cs (replicate 4112 0) h ∙ rw (z, e);
                 decides = of-file (λ a. among a c) v
                     (subst (λ (I : Interpretation). DecidesTheory (s .counts) (T .nodes) (T .operands) (T .roots) I v) (atoms-are T c below) (check .decides v n e));
+                residual-shows = λ a z.
+                    shows-of-file (λ b. among b c) a
+                    (subst (λ (I : Interpretation). LowestRemovable I (theoryOf (s .counts) (T .nodes) (T .operands) (T .roots)) a) (atoms-are T c below) (check .residual-shows a n (e ∙ ap (λ x. accepted x n) z)));
               }
           go (kept-refused r) e = absurd (false≢true (sym (ap isAccepted e) ∙ never-refused))
 
@@ -325,7 +338,16 @@ word-residual (notModel k) xs ys e = let z : _≡_ {A = ℕ} 110 114 = letter 11
 word-residual (residual a) xs ys e = (a, refl)
 word-residual stable xs ys e = let z : _≡_ {A = ℕ} 115 114 = letter 114 _ _ e refl in absurd (omega arith)
 
-module _ (f : TheoryFile) (i : ℕ) (c line : List ℕ) (w : LineTells f i c line) where
+-- the digits after `residual` are those of its atom
+residual-digits : (a n : ℕ) (digits rest : List ℕ) → Each Digit digits
+    → verdictText (residual a) ++ (spaced (n ∷ []) ++ (10 ∷ [])) ≡ residualOf digits ++ rest → decimal a ≡ digits
+unfolding verdictText spaced
+residual-digits a n digits rest d e =
+    let end : List ℕ = spaced (n ∷ []) ++ (10 ∷ []) in
+    digits-end (decimal a) digits _ rest (decimal-digits a) d
+    (sym (append-assoc (decimal a) [] end) ∙ cancel (residualWord ++ (32 ∷ [])) ((decimal a ++ []) ++ end) ((digits ++ (32 ∷ [])) ++ rest) e ∙ append-assoc digits (32 ∷ []) rest)
+
+module _ (f : TheoryFile) (sound-f : Sound f) (i : ℕ) (c line : List ℕ) (sound-c : SoundCandidate (f .atoms) c) (w : LineTells f i c line) where
   -- what stands after the verdict
   abbrev end : List ℕ
   end = spaced (w .gone-over ∷ []) ++ (10 ∷ [])
@@ -341,6 +363,20 @@ module _ (f : TheoryFile) (i : ℕ) (c line : List ℕ) (w : LineTells f i c lin
 
   says : (word rest : List ℕ) → verdictText (w .verdict) ≡ word ++ rest → Says i word line
   says word rest e = (rest ++ end, parts ∙ ap (λ l. decimal i ++ (l ++ end)) e ∙ ap (λ l. decimal i ++ l) (append-assoc word rest end))
+
+  -- the verdict's atom is one of the candidate, so its digits say it
+  atom-said : (a : ℕ) → w .verdict ≡ residual a → value (decimal a) ≡ a
+  unfolding countsOf
+  atom-said a e =
+      let l : a < f .atoms = each-among (λ x. x < f .atoms) c (sound-c .0) a (w .decides .names-atom a .0 e .1 .present) in
+      value-decimal a (omega (arith, sound-f .limited .atoms))
+
+  residual-said : (digits : List ℕ) → Each Digit digits → Says i (residualOf digits) line → w .verdict ≡ residual (value digits)
+  residual-said digits d z =
+      let x = said (residualOf digits) z in
+      let v = word-residual (w .verdict) end ((32 ∷ (digits ++ (32 ∷ []))) ++ x .0) (x .1) in
+      let same : decimal (v .0) ≡ digits = residual-digits (v .0) (w .gone-over) digits (x .0) d (sym (ap (λ y. verdictText y ++ end) (v .1)) ∙ x .1) in
+      v .1 ∙ ap residual (sym (atom-said (v .0) (v .1)) ∙ ap value same)
 
   pub word-tells : WordTells f i c line
   unfolding verdictText
@@ -358,4 +394,5 @@ module _ (f : TheoryFile) (i : ℕ) (c line : List ℕ) (w : LineTells f i c lin
           λ z. let x = said residualWord z in w .decides .model-not-stable .0 (word-residual (w .verdict) end (x .0) (x .1)),
           λ x. let a = w .decides .model-not-stable .1 x in says residualWord (spaced (a .0 ∷ [])) (ap verdictText (a .1)),
         );
+        residual-shows = λ digits d z. w .residual-shows (value digits) (residual-said digits d z);
       }

@@ -4,11 +4,13 @@ use Prim.Native.Nat.{ℕ, _<_, _≤_}
 use mathlib.Core.Path.{_≡_}
 use mathlib.Core.Logic.{_⊎_, _↔_}
 use mathlib.Core.Bool.{true, false}
-use mathlib.Core.List.{List, [], _++_}
+use mathlib.Core.List.{List, [], _∷_, _++_}
 use lib.ListN.{length, getD, take}
+use Rattle.base.specs.Each.{Each}
 use Rattle.formula.specs.Formula.{ofList}
 use Rattle.formula.specs.Satisfaction.{all}
 use Rattle.formula.specs.Stable.{Stable}
+use Rattle.formula.specs.Removable.{LowestRemovable}
 use Rattle.theory.specs.Refusal.{numberOf}
 use Rattle.theory.specs.declared.Refusal.{Refusal}
 use Rattle.theory.specs.declared.Refusal.the-variants.{PastLimit, ShortBuffer, UnsupportedRoot, UnsupportedBody, PositiveCycle}
@@ -20,10 +22,10 @@ use Rattle.encoding.specs.Held.{countsOf, summaryOf}
 use Rattle.encoding.specs.Sound.{Sound}
 use Rattle.encoding.specs.Theory.{theory}
 use Rattle.plan.specs.declared.Planning.the-variants as plan
-use Rattle.kept.specs.Verdict.{Verdict}
+use Rattle.kept.specs.Verdict.{Verdict, residual}
 use Rattle.kept.specs.Layout.{flat}
 use Rattle.kept.specs.Decides.{Decides}
-use Rattle.text.specs.Decimal.{decimal}
+use Rattle.text.specs.Decimal.{decimal, Digit, value}
 use Rattle.text.specs.Lines.{stableWord, notModelWord, residualWord, theoryLine, ranksLine, verdictLine, refusedLine}
 use Rattle.run.specs.Text.{textOf}
 use Rattle.run.specs.Planned.{planMade}
@@ -40,16 +42,24 @@ pub record LineTells (f : TheoryFile) (i : ℕ) (c line : List ℕ) : Type 0 whe
   pub gone-over : ℕ
   pub says : line ≡ verdictLine i verdict gone-over
   pub decides : Decides (f .roots) (theory f) (λ a. among a c) verdict
+  -- what a residual shows: its atom is the lowest that can be taken out of the candidate
+  pub residual-shows : (a : ℕ) → verdict ≡ residual a → LowestRemovable (λ b. among b c) (theory f) a
 
 -- in its bytes: after the number i the line goes on with this word
 abbrev pub Says : ℕ → List ℕ → List ℕ → Type 0
 Says i word line = (rest : List ℕ) × (line ≡ decimal i ++ (word ++ rest))
+
+-- the word `residual`, and these digits between two spaces
+abbrev pub residualOf : List ℕ → List ℕ
+residualOf digits = residualWord ++ (32 ∷ (digits ++ (32 ∷ [])))
 
 -- the word of the line says what the candidate is
 pub record WordTells (f : TheoryFile) (i : ℕ) (c line : List ℕ) : Type 0 where
   pub stable : Says i stableWord line ↔ Stable (λ a. among a c) (ofList (theory f))
   pub not-model : Says i notModelWord line ↔ (all (λ a. among a c) (ofList (theory f)) ≡ false)
   pub residual : Says i residualWord line ↔ ((all (λ a. among a c) (ofList (theory f)) ≡ true) × (Stable (λ a. among a c) (ofList (theory f)) → ⊥))
+  -- the digits after `residual` say the lowest atom that can be taken out
+  pub residual-shows : (digits : List ℕ) → Each Digit digits → Says i (residualOf digits) line → LowestRemovable (λ a. among a c) (theory f) (value digits)
 
 -- the number of a plan's refusal within a run: 10, 11 or 12
 abbrev pub Unplannable : Refusal → Type 0

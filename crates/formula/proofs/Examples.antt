@@ -5,7 +5,7 @@ use native.Mathlib.Omega.{arith}
 use mathlib.Core.Path.{_≡_, refl, sym, _∙_}
 use mathlib.Core.Logic.{⊎-elim}
 use mathlib.Core.Bool.{Bool, true, false, _&&_, true≢false, false≢true}
-use mathlib.Core.List.{List, [], _∷_}
+use mathlib.Core.List.{List, [], _∷_, map}
 use lib.Dec.{eqb, ltb}
 use borrow.Author.Tests.{eqb-true, ltb-true}
 use Rattle.base.specs.Tests.{both-left, both-right, either, or-right}
@@ -13,13 +13,16 @@ use Rattle.formula.specs.Formula.{atom, implies, ofList}
 use Rattle.formula.specs.Satisfaction.{sat}
 use Rattle.formula.specs.Reduct.{reduct}
 use Rattle.formula.specs.Stable.{Stable}
+use Rattle.formula.specs.Removable.{without, Removable, LowestRemovable}
 use Rattle.formula.specs.Class.{class}
 use Rattle.formula.specs.Rank.{highest}
 use Rattle.formula.specs.Head.{normal}
-use Rattle.formula.specs.Root.{Root, constraint, fact, rule, theory}
+use Rattle.formula.specs.Root.{Root, constraint, fact, rule, rootFormula, theory}
 use Rattle.formula.specs.Plan.{Planned}
 use Rattle.formula.specs.Support.{produces, supported}
+use Rattle.formula.specs.Named.{LowestUnproduced}
 use Rattle.formula.specs.Passes.{Within, below, passes}
+use Rattle.formula.proofs.Producers.{unproduced-by, unsupported-by}
 use Rattle.formula.proofs.Cases.{among, chosen, doubled, denied}
 use Rattle.formula.proofs.Fages.{stable-supported}
 use Rattle.formula.proofs.Decide.{passes-supported, passes-stable}
@@ -59,6 +62,16 @@ chosen-equal p = let h : 0 < 0 = p .1 .0 .lower refl in omega arith
 pub chosen-1-unstable : Stable (among (1 ∷ [])) (theory chosen) → ⊥
 unfolding passes below theory ofList sat supported produces
 chosen-1-unstable = unstable-by 2 chosen (1 ∷ []) refl refl
+
+-- its atom 1 can be taken out: the empty set satisfies the reduct under {1}
+pub chosen-1-removable : LowestRemovable (among (1 ∷ [])) (map rootFormula chosen) 1
+unfolding ofList sat reduct without
+chosen-1-removable =
+    record {
+      present = refl;
+      removable = refl;
+      before = λ b l i e. let z : b ≡ 0 = omega arith in false≢true (rw z at i);
+    }
 
 pub chosen-01-stable : Stable (among (0 ∷ 1 ∷ [])) (theory chosen)
 unfolding passes below theory ofList sat supported produces
@@ -133,6 +146,22 @@ circle-passes = refl
 circle-unstable : Stable (among (0 ∷ [])) (theory circle) → ⊥
 unfolding theory ofList sat reduct
 circle-unstable s = s .minimal (among []) (record { within = λ a i. absurd (false≢true i); lost = 0; had = refl; hasn't = refl }) refl
+
+-- {0, 1}: 1 is the lowest atom that no root produces; 0 is produced, and can be taken out all the same
+circle-lower : LowestUnproduced (among (0 ∷ 1 ∷ [])) (map rootFormula circle) 1 × Removable (among (0 ∷ 1 ∷ [])) (map rootFormula circle) 0
+unfolding supported produces ofList sat reduct without
+circle-lower = (
+  record {
+    present = refl;
+    unproduced = unproduced-by (among (0 ∷ 1 ∷ [])) 1 circle refl;
+    before = λ b l i u. let z : b ≡ 0 = omega arith in true≢false (unsupported-by (among (0 ∷ 1 ∷ [])) 0 circle (rw z at u));
+  },
+  refl,
+)
+
+-- so without ranks the lowest atom that no root produces need not be the lowest that can be taken out
+pub circle-not-lowest : LowestRemovable (among (0 ∷ 1 ∷ [])) (map rootFormula circle) 1 → ⊥
+circle-not-lowest w = w .before 0 (omega arith) refl (circle-lower .1)
 
 -- atom 1; atom 0 from the implication of 0 by 1, an Opaque body
 abbrev implied-0 : List Root

@@ -14,6 +14,7 @@ use Rattle.formula.specs.Formula.{implies, ofList}
 use Rattle.formula.specs.Satisfaction.{Interpretation, sat, all}
 use Rattle.formula.specs.Reduct.{reduct, reducts}
 use Rattle.formula.specs.Stable.{ProperSubset, Stable}
+use Rattle.formula.specs.Removable.{without}
 use Rattle.formula.specs.Head.{Head, normal, choice, flipped, headAtom, headFormula}
 use Rattle.formula.specs.Root.{Root, constraint, denial, fact, rule, rootFormula, theory}
 use Rattle.formula.specs.Plan.{PlannedRoot, Planned}
@@ -21,10 +22,6 @@ use Rattle.formula.specs.Support.{produces, supported, SupportedModel}
 use Rattle.formula.proofs.Laws.{reduct-false, negation-kept, kept}
 
 -- ---- stable models are supported: an atom without support can be taken out
-
--- I without the atom a
-unfoldable pub without : Interpretation → ℕ → Interpretation
-without I a b = I b && not (eqb b a)
 
 without-proper : (I : Interpretation) (a : ℕ) → I a ≡ true → ProperSubset (without I a) I
 unfolding without
@@ -102,7 +99,7 @@ module _ (r : ℕ → ℕ) (I J : Interpretation) (a : ℕ) (i : I a ≡ true) (
       let t : sat J (reduct I b) ≡ true = kept r (r (headAtom h)) I J (rw p has) b (f .clear) (f .lower) (both-right (eqb (headAtom h) a) _ g) in
       rw p at (head-has I J h (rw p i) (implied (simp e at s) t))
 
-  supported-has : (xs : List Root) → Planned r xs → supported I a xs ≡ true →
+  pub supported-has : (xs : List Root) → Planned r xs → supported I a xs ≡ true →
       all I (theory xs) ≡ true → all J (reducts I (theory xs)) ≡ true → J a ≡ true
   unfolding supported theory ofList all reducts
   supported-has [] f g e s = absurd (false≢true g)

@@ -2,6 +2,7 @@ pub mod Formula
 pub mod Satisfaction
 pub mod Reduct
 pub mod Stable
+pub mod Removable
 pub mod Class
 pub mod Rank
 pub mod Head

@@ -15,7 +15,7 @@ use Rattle.theory.specs.declared.Refusal.{Refusal}
 use Rattle.theory.specs.declared.Refusal.the-variants.{BadEntry}
 use Rattle.kept.specs.Tables.{Tables, atomCount, nodeCount}
 use Rattle.kept.specs.Evaluation.{Evaluation, zeroed, fresh}
-use Rattle.kept.specs.Verdict.{Verdict, verdict}
+use Rattle.kept.specs.Verdict.{Verdict, residual, verdict}
 use Rattle.kept.specs.Walk.{keptWalk}
 use Rattle.kept.specs.Changed.{changedAtoms}
 use Rattle.kept.specs.Check as check
@@ -33,6 +33,7 @@ use Rattle.kept.specs.PlannedLaws.{consistent}
 use Rattle.kept.specs.Series.{isAccepted, zeroedWords, answerTo, seriesWords, lastAccepted, anew, GoneOver, SeriesCheck, Demand3}
 use Rattle.kept.proofs.Walk.{walk}
 use Rattle.kept.proofs.Decides.{decided}
+use Rattle.kept.proofs.Removable.{residual-removable}
 
 module _ (T : Tables) (plan : PlannedTables T) where
   good : Consistent T
@@ -137,6 +138,9 @@ module _ (T : Tables) (plan : PlannedTables T) where
                   let q : verdict T (atomsOf T c) ≡ v = cc in
                   outcome-passed none c e ∙ ap₂ (λ (y : Verdict) (ws : List ℕ). record { answer = accepted y (nodeCount T); words = ws }) q (sym (ap (λ y. y .words) x));
               decides = λ v n z. let q : verdict T (atomsOf T c) ≡ v = cc in rw q at (decided T plan (atomsOf T c) (atoms-within T c size e));
+              residual-shows = λ a n z.
+                  let q : verdict T (atomsOf T c) ≡ residual a = cc in
+                  residual-removable T plan (atomsOf T c) a (rw q at (decided T plan (atomsOf T c) (atoms-within T c size e)));
               gone-over = λ v n z. let q : gone o c ≡ n = cc in rw q at (gone-over o c (atoms-within T c size e));
             }
         go (Refused r) e =
@@ -149,6 +153,7 @@ module _ (T : Tables) (plan : PlannedTables T) where
               unaltered = λ s z. ap (λ y. y .words) x;
               as-fresh = λ v n z. absurd (no v n z);
               decides = λ v n z. absurd (no v n z);
+              residual-shows = λ a n z. absurd (no (residual a) n z);
               gone-over = λ v n z. absurd (no v n z);
             }
 

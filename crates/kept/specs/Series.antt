@@ -7,12 +7,14 @@ use mathlib.Core.List.{List, [], _∷_, _++_}
 use mathlib.Core.Option.{Option, some, none}
 use lib.ListN.{length, replicate}
 use Rattle.base.specs.Places.{places, count}
+use Rattle.formula.specs.Removable.{LowestRemovable}
+use Rattle.theory.specs.NodeFormula.{theoryOf}
 use Rattle.theory.specs.declared.Admission.the-variants.{Admitted}
 use Rattle.theory.specs.declared.Refusal.{Refusal}
 use Rattle.theory.specs.declared.Refusal.the-variants.{BadEntry}
 use Rattle.kept.specs.Tables.{Tables, nodeCount}
 use Rattle.kept.specs.Evaluation.{fresh}
-use Rattle.kept.specs.Verdict.{Verdict}
+use Rattle.kept.specs.Verdict.{Verdict, residual}
 use Rattle.kept.specs.Dirty.{dirty}
 use Rattle.kept.specs.Walk.{ended, keptWalk}
 use Rattle.kept.specs.Check.{most, isKept}
@@ -78,6 +80,8 @@ module _ (floor divisor : ℕ) (T : Tables) where
     pub unaltered : (r : Refusal) → answerTo c ws ≡ refused r → wordsAfter c ws ≡ ws
     pub as-fresh : (v : Verdict) (n : ℕ) → answerTo c ws ≡ accepted v n → outcome floor divisor T c zeros ≡ record { answer = accepted v (nodeCount T); words = wordsAfter c ws }
     pub decides : (v : Verdict) (n : ℕ) → answerTo c ws ≡ accepted v n → DecidesTheory (T .counts) (T .nodes) (T .operands) (T .roots) (atomsOf T c) v
+    -- what a residual shows: its atom is the lowest that can be taken out of the candidate
+    pub residual-shows : (a n : ℕ) → answerTo c ws ≡ accepted (residual a) n → LowestRemovable (atomsOf T c) (theoryOf (T .counts) (T .nodes) (T .operands) (T .roots)) a
     pub gone-over : (v : Verdict) (n : ℕ) → answerTo c ws ≡ accepted v n → GoneOver o ws c n
 
   -- demand 3: the words after every series, and each check in it

@@ -2,13 +2,13 @@
 -- Assumes nothing.
 use Prim.Native.Nat.{ℕ, zero, suc, _+_, _-_, _*_, _/_, _%_, _^_, _≤_, _<_}
 use native.Mathlib.Omega.{arith}
-use mathlib.Core.Path.{_≡_, refl, ap, _∙_}
+use mathlib.Core.Path.{_≡_, refl, ap, ap₂, _∙_}
 use mathlib.Core.Bool.{Bool, true, false}
 use mathlib.Core.List.{List, [], _∷_, _++_}
 use lib.Dec.{ltb}
 use borrow.Author.Tests.{ltb-true, ltb-false}
 use Rattle.base.specs.Each.{Each, each-append}
-use Rattle.text.specs.Decimal.{digits, decimal, value, valueAfter}
+use Rattle.text.specs.Decimal.{digits, decimal, Digit, value, valueAfter}
 use Rattle.text.specs.DecimalLaws.{digits-one, digits-more, tenth}
 
 -- a digit more
@@ -37,10 +37,6 @@ pub value-decimal : (n : ℕ) → n < 10 ^ 20 → value (decimal n) ≡ n
 unfolding decimal
 value-decimal n h = value-digits 20 n h
 
--- a byte that is an ASCII digit
-abbrev pub Digit : ℕ → Type 0
-Digit b = (48 ≤ b) × (b < 58)
-
 each-digit : (k n : ℕ) → Each Digit (digits k n)
 unfolding digits
 each-digit zero n = tt
@@ -54,3 +50,13 @@ each-digit (suc k) n = go (each-digit k (n / 10)) (ltb n 10) refl
 pub decimal-digits : (n : ℕ) → Each Digit (decimal n)
 unfolding decimal
 decimal-digits n = each-digit 20 n
+
+-- digits end where a space stands
+pub digits-end : (xs ys us vs : List ℕ) → Each Digit xs → Each Digit ys → xs ++ 32 ∷ us ≡ ys ++ 32 ∷ vs → xs ≡ ys
+digits-end [] [] us vs p q e = refl
+digits-end [] (y ∷ ys) us vs p q e = let z : 32 ≡ y = cc in absurd (omega (arith, q .0 .0))
+digits-end (x ∷ xs) [] us vs p q e = let z : x ≡ 32 = cc in absurd (omega (arith, p .0 .0))
+digits-end (x ∷ xs) (y ∷ ys) us vs p q e =
+    let z : x ≡ y = cc in
+    let rest : xs ++ 32 ∷ us ≡ ys ++ 32 ∷ vs = cc in
+    ap₂ _∷_ z (digits-end xs ys us vs (p .1) (q .1) rest)
