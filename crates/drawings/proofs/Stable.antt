@@ -10,11 +10,11 @@ use Rattle.formula.specs.Satisfaction.{sat}
 use Rattle.formula.specs.Head.{negated}
 use Rattle.formula.specs.Root.{theory}
 use Rattle.formula.proofs.Cases.{pair, among}
-use Rattle.formula.proofs.Examples.{chosen-1-unstable, chosen-01-stable, chosen-none-stable, doubled-none-stable, doubled-0-stable, empty-none-stable, empty-0-unstable, turning-none-stable, turning-all-unstable, implied-2-stable}
+use Rattle.formula.proofs.Examples.{chosen-1-unstable, chosen-1-removable, chosen-01-stable, chosen-none-stable, doubled-none-stable, doubled-0-stable, empty-none-stable, empty-0-unstable, empty-0-removable, turning-none-stable, turning-all-unstable, implied-2-stable}
 use Rattle.theory.specs.Node.{nodeAt, span}
 use Rattle.theory.specs.NodeFormula.{nodeFormula, nodeFormulas, formula, theoryOf}
 use Rattle.theory.specs.declared.Counts.{Counts}
-use Rattle.drawings.specs.Standing.{Standing, stable, unstable, noModel, Stands}
+use Rattle.drawings.specs.Standing.{Standing, stable, unstable, unstableBy, noModel, Stands}
 use Rattle.drawings.specs.Tables.{counts, exampleNodes, exampleOperands, exampleRoots, fiveNodes, fiveRoots, sixNodes, sixRoots, sevenNodes, sevenRoots}
 
 -- tables, the formulas of their roots, and a candidate's atoms
@@ -94,17 +94,17 @@ nine c s = record { counts = counts 0 1 0 1; nodes = 1 ∷ 0 ∷ 0 ∷ []; opera
 -- C1 to C4; C5, whose plan is refused: a supported model is not stable; C6, whose plan is refused; C7; C8; C9
 abbrev pub facts : List Fact
 facts =
-    example (1 ∷ []) unstable ∷ example (0 ∷ 1 ∷ []) stable ∷ example (0 ∷ []) noModel ∷ example [] stable
+    example (1 ∷ []) (unstableBy 1) ∷ example (0 ∷ 1 ∷ []) stable ∷ example (0 ∷ []) noModel ∷ example [] stable
     ∷ five [] stable ∷ five (0 ∷ 1 ∷ 2 ∷ []) unstable
     ∷ six (2 ∷ []) stable ∷ six [] noModel
     ∷ seven [] stable ∷ seven (0 ∷ []) stable
-    ∷ eight [] stable ∷ eight (0 ∷ []) unstable
+    ∷ eight [] stable ∷ eight (0 ∷ []) (unstableBy 0)
     ∷ nine [] noModel ∷ []
 
 pub facts-hold : Each Holds facts
 unfolding exampleNodes exampleOperands exampleRoots fiveNodes fiveRoots sixNodes sixRoots sevenNodes sevenRoots formula nodeFormulas nodeFormula rising extended nodeAt span ofList sat theory
 facts-hold = (
-  (refl, (refl, chosen-1-unstable)),
+  (refl, (refl, chosen-1-unstable, chosen-1-removable)),
   (
     (refl, chosen-01-stable),
     (
@@ -126,7 +126,7 @@ facts-hold = (
                     (
                       (refl, empty-none-stable),
                       (
-                        (refl, (refl, empty-0-unstable)),
+                        (refl, (refl, empty-0-unstable, empty-0-removable)),
                         ((refl, refl), tt),
                       ),
                     ),

@@ -10,7 +10,7 @@ use lib.Dec.{eqb, ltb}
 use borrow.Author.Tests.{eqb-true, ltb-true}
 use Rattle.base.specs.Tests.{both-left, both-right, either, or-right}
 use Rattle.formula.specs.Formula.{atom, implies, ofList}
-use Rattle.formula.specs.Satisfaction.{sat}
+use Rattle.formula.specs.Satisfaction.{sat, all}
 use Rattle.formula.specs.Reduct.{reduct}
 use Rattle.formula.specs.Stable.{Stable}
 use Rattle.formula.specs.Removable.{without, Removable, LowestRemovable}
@@ -105,6 +105,11 @@ pub doubled-0-stable : Stable (among (0 ∷ [])) (theory doubled)
 unfolding passes below theory ofList sat supported produces
 doubled-0-stable = stable-by 1 doubled (0 ∷ []) refl (λ a. 0) doubled-planned refl
 
+-- {0}: the empty set satisfies the roots, but not the reduct under {0}, so 0 cannot be taken out
+doubled-0-needed : (all (without (among (0 ∷ [])) 0) (ofList (map rootFormula doubled)) ≡ true) × (Removable (among (0 ∷ [])) (map rootFormula doubled) 0 → ⊥)
+unfolding ofList sat reduct without
+doubled-0-needed = (refl, λ e. false≢true e)
+
 -- ---- a choice in the other order; a denial of its atom
 
 denied-none-stable : Stable (among []) (theory denied)
@@ -124,6 +129,10 @@ empty-none-stable = stable-by 1 [] [] refl (λ a. 0) tt refl
 pub empty-0-unstable : Stable (among (0 ∷ [])) (theory []) → ⊥
 unfolding passes below theory ofList sat supported
 empty-0-unstable = unstable-by 1 [] (0 ∷ []) refl refl
+
+pub empty-0-removable : LowestRemovable (among (0 ∷ [])) [] 0
+unfolding ofList sat reduct
+empty-0-removable = record { present = refl; removable = refl; before = λ b l i e. omega arith }
 
 false-unstable : Stable (among []) (theory (constraint ∷ [])) → ⊥
 unfolding passes below theory ofList sat supported
