@@ -11,7 +11,7 @@ use lib.ListN.{length, getD, take, drop, replicate, length-replicate, length-app
 use borrow.Author.Tests.{le-ltb}
 use Rattle.base.specs.Tests.{below-or}
 use Rattle.base.specs.Front.{front}
-use Rattle.base.specs.Each.{Each}
+use Rattle.base.specs.Each.{Each, each-at}
 use Rattle.formula.specs.Satisfaction.{Interpretation}
 use Rattle.formula.specs.Removable.{LowestRemovable}
 use Rattle.theory.specs.Admission.{allBelow}
@@ -347,7 +347,7 @@ residual-digits a n digits rest d e =
     digits-end (decimal a) digits _ rest (decimal-digits a) d
     (sym (append-assoc (decimal a) [] end) ∙ cancel (residualWord ++ (32 ∷ [])) ((decimal a ++ []) ++ end) ((digits ++ (32 ∷ [])) ++ rest) e ∙ append-assoc digits (32 ∷ []) rest)
 
-module _ (f : TheoryFile) (sound-f : Sound f) (i : ℕ) (c line : List ℕ) (sound-c : SoundCandidate (f .atoms) c) (w : LineTells f i c line) where
+module _ (f : TheoryFile) (sound-f : Sound f) (i : ℕ) (h : i < length (f .candidates)) (line : List ℕ) (w : LineTells f i (getD (f .candidates) i []) line) where
   -- what stands after the verdict
   abbrev end : List ℕ
   end = spaced (w .gone-over ∷ []) ++ (10 ∷ [])
@@ -368,7 +368,8 @@ module _ (f : TheoryFile) (sound-f : Sound f) (i : ℕ) (c line : List ℕ) (sou
   atom-said : (a : ℕ) → w .verdict ≡ residual a → value (decimal a) ≡ a
   unfolding countsOf
   atom-said a e =
-      let l : a < f .atoms = each-among (λ x. x < f .atoms) c (sound-c .0) a (w .decides .names-atom a .0 e .1 .present) in
+      let sound-c = each-at (SoundCandidate (f .atoms)) [] (f .candidates) (sound-f .candidates) i h in
+      let l : a < f .atoms = each-among (λ x. x < f .atoms) (getD (f .candidates) i []) (sound-c .0) a (w .decides .names-atom a .0 e .1 .present) in
       value-decimal a (omega (arith, sound-f .limited .atoms))
 
   residual-said : (digits : List ℕ) → Each Digit digits → Says i (residualOf digits) line → w .verdict ≡ residual (value digits)
@@ -378,7 +379,7 @@ module _ (f : TheoryFile) (sound-f : Sound f) (i : ℕ) (c line : List ℕ) (sou
       let same : decimal (v .0) ≡ digits = residual-digits (v .0) (w .gone-over) digits (x .0) d (sym (ap (λ y. verdictText y ++ end) (v .1)) ∙ x .1) in
       v .1 ∙ ap residual (sym (atom-said (v .0) (v .1)) ∙ ap value same)
 
-  pub word-tells : WordTells f i c line
+  pub word-tells : WordTells f i (getD (f .candidates) i []) line
   unfolding verdictText
   word-tells =
       record {
