@@ -61,7 +61,8 @@ enum {
     TIGHT_BAD_ENTRY = 17         /* entry met not as planned: the node being read, else 0 */
 };
 
-/* The verdicts. */
+/* The verdicts. The atom that a residual names is the lowest that can be taken out alone: the
+ * candidate without it satisfies the candidate's reduct. */
 enum {
     TIGHT_STABLE = 0,   /* a stable model */
     TIGHT_NOTMODEL = 1, /* no model; names the first false root in root order, by its node */

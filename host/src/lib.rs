@@ -104,7 +104,8 @@ pub enum Verdict {
     NotModel {
         root: u64,
     },
-    /// The lowest candidate atom without a producer that holds.
+    /// The lowest candidate atom without a producer that holds. It is the lowest that can be taken
+    /// out alone: the candidate without it satisfies the candidate's reduct.
     Residual {
         atom: u64,
     },

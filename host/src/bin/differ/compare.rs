@@ -95,6 +95,29 @@ pub fn agree<T: PartialEq + Debug + ?Sized>(
     )
 }
 
+/// The verdict by Ferraris's definition, for few atoms: stable or not, all subsets tried; the atom
+/// of a residual, each atom taken out alone.
+pub fn compare_ferraris(
+    drawing: &Drawing,
+    candidate: &Candidate,
+    verdict: Verdict,
+    tally: &mut Tally,
+) -> Compared {
+    if drawing.atoms > stable::MOST_ATOMS {
+        return Ok(());
+    }
+    tally.brute_force += 1;
+    let is_stable = stable::is_stable(drawing, candidate);
+    let says_stable = verdict == Verdict::Stable;
+    agree("stable", "Ferraris", &says_stable, &is_stable)?;
+    if let Verdict::Residual { atom } = verdict {
+        tally.taken_out += candidate.atoms().count() as u64;
+        let lowest = stable::removable(drawing, candidate).first().copied();
+        agree("residual", "Ferraris", &Some(atom as usize), &lowest)?;
+    }
+    Ok(())
+}
+
 /// How often each thing was compared.
 #[derive(Clone, Copy, Debug, Default)]
 pub struct Tally {
@@ -112,6 +135,7 @@ pub struct Tally {
     pub notmodel: u64,
     pub residual: u64,
     pub brute_force: u64,
+    pub taken_out: u64,
     pub damaged: u64,
     pub files: u64,
     pub files_accepted: u64,
@@ -136,6 +160,7 @@ impl Tally {
         self.notmodel += other.notmodel;
         self.residual += other.residual;
         self.brute_force += other.brute_force;
+        self.taken_out += other.taken_out;
         self.damaged += other.damaged;
         self.files += other.files;
         self.files_accepted += other.files_accepted;
@@ -152,7 +177,7 @@ impl fmt::Display for Tally {
             f,
             "theories {} (accepted {}, unsupported {}, cycles {}), proposals {} (accepted {}), \
              checks {} (fresh {}, kept {}, refused {}; stable {}, notmodel {}, residual {}), \
-             roots lost {}, brute force {}, damaged {}, \
+             roots lost {}, brute force {} (atoms taken out {}), damaged {}, \
              files {} (accepted {}, refused by 1 to 8 {}, by 9 {}, by 10 to 12 {}; checks {})",
             self.theories,
             self.accepted,
@@ -169,6 +194,7 @@ impl fmt::Display for Tally {
             self.residual,
             self.lost_roots,
             self.brute_force,
+            self.taken_out,
             self.damaged,
             self.files,
             self.files_accepted,
@@ -505,16 +531,7 @@ impl<S: Subject> Series<'_, S> {
             Verdict::NotModel { .. } => tally.notmodel += 1,
             Verdict::Residual { .. } => tally.residual += 1,
         }
-        if self.drawing.atoms <= stable::MOST_ATOMS {
-            tally.brute_force += 1;
-            let is_stable = stable::is_stable(self.drawing, candidate);
-            agree(
-                "stable",
-                "Ferraris",
-                &(ours.verdict == Verdict::Stable),
-                &is_stable,
-            )?;
-        }
+        compare_ferraris(self.drawing, candidate, ours.verdict, tally)?;
         self.last = Some(new);
         Ok(())
     }

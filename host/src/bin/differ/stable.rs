@@ -1,4 +1,5 @@
-//! Stable models as Ferraris (2005) defines them, by trying every proper subset.
+//! Stable models as Ferraris (2005) defines them, by trying every proper subset; atoms that can be
+//! taken out of a candidate alone, by trying each.
 
 use crate::document;
 use crate::drawing::{Candidate, Drawing, Node};
@@ -33,36 +34,57 @@ pub fn is_stable(drawing: &Drawing, candidate: &Candidate) -> bool {
             // the candidate itself is no proper subset
             lanes &= !(1 << (here - 1));
         }
-        let mut reduct: Vec<u64> = Vec::with_capacity(drawing.nodes.len());
-        for (node, &truth) in drawing.nodes.iter().zip(&truths) {
-            let value = |operand: &u32| reduct[*operand as usize];
-            reduct.push(match node {
-                _ if !truth => 0,
-                Node::Atom(atom) => {
-                    let place = present.iter().position(|&a| a == *atom as usize);
-                    match place.expect("a true atom is present") {
-                        place if place < 6 => LANES[place],
-                        place if block >> (place - 6) & 1 != 0 => u64::MAX,
-                        _ => 0,
-                    }
-                }
-                Node::False => 0,
-                Node::Implies(left, right) => !value(left) | value(right),
-                Node::And(operands) => operands.iter().map(value).fold(u64::MAX, |a, b| a & b),
-                Node::Or(operands) => operands.iter().map(value).fold(0, |a, b| a | b),
-            });
-        }
-        if drawing
-            .roots
-            .iter()
-            .fold(lanes, |lanes, &root| lanes & reduct[root as usize])
-            != 0
-        {
+        let has = |place: usize| match place {
+            place if place < 6 => LANES[place],
+            place if block >> (place - 6) & 1 != 0 => u64::MAX,
+            _ => 0,
+        };
+        if lanes & reduct_holds(drawing, &truths, &present, has) != 0 {
             return false;
         }
         block += 1;
     }
     true
+}
+
+/// The atoms of the candidate that can be taken out alone: what is left satisfies the candidate's
+/// reduct. Each is tried.
+pub fn removable(drawing: &Drawing, candidate: &Candidate) -> Vec<usize> {
+    let truths = document::truths(drawing, candidate);
+    let present: Vec<usize> = candidate.atoms().collect();
+    // subset number j lacks present atom j
+    let holds = reduct_holds(drawing, &truths, &present, |place| !(1 << place));
+    let lone = present.iter().enumerate();
+    lone.filter(|&(place, _)| holds >> place & 1 != 0)
+        .map(|(_, &atom)| atom)
+        .collect()
+}
+
+/// In which of 64 subsets of the candidate every root's reduct is satisfied; `has` tells in which
+/// of them the present atom of that number is.
+fn reduct_holds(
+    drawing: &Drawing,
+    truths: &[bool],
+    present: &[usize],
+    has: impl Fn(usize) -> u64,
+) -> u64 {
+    let mut reduct: Vec<u64> = Vec::with_capacity(drawing.nodes.len());
+    for (node, &truth) in drawing.nodes.iter().zip(truths) {
+        let value = |operand: &u32| reduct[*operand as usize];
+        reduct.push(match node {
+            _ if !truth => 0,
+            Node::Atom(atom) => {
+                let place = present.iter().position(|&a| a == *atom as usize);
+                has(place.expect("a true atom is present"))
+            }
+            Node::False => 0,
+            Node::Implies(left, right) => !value(left) | value(right),
+            Node::And(operands) => operands.iter().map(value).fold(u64::MAX, |a, b| a & b),
+            Node::Or(operands) => operands.iter().map(value).fold(0, |a, b| a | b),
+        });
+    }
+    let roots = drawing.roots.iter();
+    roots.fold(u64::MAX, |holds, &root| holds & reduct[root as usize])
 }
 
 #[cfg(test)]
@@ -73,9 +95,9 @@ mod tests {
         Candidate::of_words(vec![words])
     }
 
-    #[test]
-    fn double_negation_is_free() {
-        let drawing = Drawing {
+    /// 0 from its double negation.
+    fn doubled() -> Drawing {
+        Drawing {
             atoms: 1,
             nodes: vec![
                 Node::Atom(0),
@@ -85,7 +107,12 @@ mod tests {
                 Node::Implies(3, 0),
             ],
             roots: vec![4],
-        };
+        }
+    }
+
+    #[test]
+    fn double_negation_is_free() {
+        let drawing = doubled();
         assert!(is_stable(&drawing, &of(0)));
         assert!(is_stable(&drawing, &of(1)));
     }
@@ -120,5 +147,34 @@ mod tests {
         assert!(!is_stable(&drawing, &of(255)));
         drawing.roots.push(6);
         assert!(is_stable(&drawing, &of(255)));
+    }
+
+    /// The empty set satisfies the roots, but not the reduct under {0}.
+    #[test]
+    fn by_the_reduct_not_by_the_roots() {
+        assert_eq!(removable(&doubled(), &of(1)), []);
+    }
+
+    /// 1 from 0 with {0, 1}: 0 has no rule, and 1 cannot go without it.
+    #[test]
+    fn the_atom_without_a_rule_is_removable() {
+        let drawing = Drawing {
+            atoms: 2,
+            nodes: vec![Node::Atom(0), Node::Atom(1), Node::Implies(0, 1)],
+            roots: vec![2],
+        };
+        assert_eq!(removable(&drawing, &of(3)), [0]);
+        assert_eq!(removable(&drawing, &of(2)), [1]);
+    }
+
+    /// 0 from 0 has no ranks: 1 has no rule, yet 0 below it can be taken out.
+    #[test]
+    fn a_loop_is_removable() {
+        let drawing = Drawing {
+            atoms: 2,
+            nodes: vec![Node::Atom(0), Node::Atom(1), Node::Implies(0, 0)],
+            roots: vec![2],
+        };
+        assert_eq!(removable(&drawing, &of(3)), [0, 1]);
     }
 }

@@ -1,13 +1,13 @@
 //! The harness finds faults: each is found in random inputs and shrunk to a small one.
 
-use crate::compare::{Library, Subject, Tally, compare, plan_call};
+use crate::compare::{Library, Subject, Tally, compare, compare_ferraris, plan_call};
 use crate::damage::Damaged;
-use crate::drawing::{Encoded, STAMP};
+use crate::drawing::{Candidate, Encoded, STAMP};
 use crate::file::{self, counted, encoded};
 use crate::random::Random;
 use crate::{EXAMPLE, document, generate, generate_file, run, rust, shrink};
-use tight::Counts;
 use tight::call::{Answer, CandidateWords, LIMITS, Lent, Planned, Tables};
+use tight::{Counts, Verdict};
 
 #[derive(Clone, Copy, Debug, PartialEq)]
 enum Fault {
@@ -29,6 +29,8 @@ enum Fault {
     Stable,
     /// Another root than the first false one is named.
     Root,
+    /// Another atom than the lowest without a producer is named.
+    Atom,
     /// One node more is counted in a kept check.
     Count,
     /// Every check is fresh.
@@ -45,7 +47,7 @@ enum Fault {
     Empty,
 }
 
-const FAULTS: [Fault; 15] = [
+const FAULTS: [Fault; 16] = [
     Fault::Cycle,
     Fault::Rank,
     Fault::Kind,
@@ -55,6 +57,7 @@ const FAULTS: [Fault; 15] = [
     Fault::Behind,
     Fault::Stable,
     Fault::Root,
+    Fault::Atom,
     Fault::Count,
     Fault::Fresh,
     Fault::Support,
@@ -155,6 +158,12 @@ impl Subject for Fault {
                 let last = *tables.roots.last().expect("a false root");
                 answer = Answer::checked([1, last.into(), visited]);
             }
+            Fault::Atom if accepted && answer.verdict() == 2 => {
+                let highest = candidate.words.iter().rposition(|&word| word != 0);
+                let highest = highest.expect("an atom");
+                let bit = candidate.words[highest].ilog2() as usize;
+                answer = Answer::checked([2, (64 * highest + bit) as u64, visited]);
+            }
             Fault::Count if accepted && was_kept => answer.0 += 1 << 40,
             Fault::Support if accepted && was_kept => {
                 kept[8 + counts.nodes + counts.nodes.div_ceil(32)] += 1;
@@ -240,6 +249,21 @@ fn a_root_lost_between_checks_is_17() {
         Answer::refused([17, 0, 0])
     );
     assert_eq!(kept, zeroed);
+}
+
+/// Document 01's example, {1}: Ferraris's definition alone tells residual 1 from another atom.
+#[test]
+fn a_residual_with_another_atom_is_found() {
+    let theory = file::TheoryFile::read(EXAMPLE).expect("a sound file");
+    let one = Candidate::of_words(vec![2]);
+    let mut tally = Tally::default();
+    let mut residual = |atom| {
+        let verdict = Verdict::Residual { atom };
+        compare_ferraris(&theory.drawing, &one, verdict, &mut tally)
+    };
+    residual(1).expect("no difference");
+    assert_eq!(residual(0).unwrap_err().kind, "residual (Ferraris)");
+    assert_eq!((tally.brute_force, tally.taken_out), (2, 2));
 }
 
 #[test]
