@@ -5,13 +5,12 @@ use native.Mathlib.Omega.{arith}
 use mathlib.Core.Path.{_≡_, refl, sym, ap, subst, _∙_}
 use mathlib.Core.Logic.{_⊎_, ⊎-elim}
 use mathlib.Core.Bool.{true, false≢true}
-use mathlib.Core.List.{List, [], _∷_, _++_, map, append-assoc}
+use mathlib.Core.List.{List, [], _++_, map}
 use mathlib.Core.Option.{none}
 use lib.ListN.{length, getD, take, drop, replicate, length-replicate, length-append, length-drop}
 use borrow.Author.Tests.{le-ltb}
 use Rattle.base.specs.Tests.{below-or}
 use Rattle.base.specs.Front.{front}
-use Rattle.base.specs.Each.{Each, each-at}
 use Rattle.formula.specs.Satisfaction.{Interpretation}
 use Rattle.formula.specs.Removable.{LowestRemovable}
 use Rattle.theory.specs.Admission.{allBelow}
@@ -28,7 +27,7 @@ use Rattle.record.specs.declared.Summary.{Summary}
 use Rattle.record.specs.declared.Judged.the-variants as judgment
 use Rattle.encoding.specs.Value.{TheoryFile}
 use Rattle.encoding.specs.Held.{contentsOf, countsOf, summaryOf}
-use Rattle.encoding.specs.Sound.{Below, SoundCandidate, Sound}
+use Rattle.encoding.specs.Sound.{Below}
 use Rattle.encoding.specs.Theory.{theory}
 use Rattle.encoding.proofs.Encoding.{read-encoded, sound-encoded}
 use Rattle.encoding.proofs.Theory.{roots-held, root-formulas-held}
@@ -52,24 +51,22 @@ use Rattle.plan.specs.declared.Planning as plans
 use Rattle.plan.specs.declared.Planning.the-variants as answers
 use Rattle.kept.specs.Planned.{PlannedTables}
 use Rattle.kept.specs.Tables.{Tables, atomCount}
-use Rattle.kept.specs.Verdict.{Verdict, notModel, residual, stable}
+use Rattle.kept.specs.Verdict.{Verdict}
 use Rattle.kept.specs.Decides.{Decides, DecidesTheory}
 use Rattle.kept.specs.Outcome.{Answer, accepted, refused as kept-refused}
 use Rattle.kept.specs.Tests.{tests}
 use Rattle.kept.specs.Series.{answerTo, isAccepted, lastAccepted, SeriesCheck}
 use Rattle.series.proofs.Planned.{plan-planned}
-use Rattle.text.specs.Decimal.{decimal, Digit, value}
-use Rattle.text.specs.Lines.{stableWord, notModelWord, residualWord, theoryLine, ranksLine, spaced, verdictText, verdictLine, refusedLine}
-use Rattle.text.proofs.Decimal.{value-decimal, decimal-digits, digits-end}
+use Rattle.text.specs.Lines.{theoryLine, ranksLine, refusedLine}
 use Rattle.run.specs.Text.{candidateOf, checkLine, ownPlan, ownTables, candidatesOf, candidatesIn, textOf}
 use Rattle.run.specs.Planned.{tablesLoaded, planMade, tablesLent, PlannedFile, wordsLent}
 use Rattle.run.specs.TextLaws.{loaded-own, too-many-atoms, load-refused, plan-refused, load-sound, file-sound, file-refused, too-long as too-long-text}
 use Rattle.run.specs.CheckLaws.{file-candidates}
 use Rattle.run.proofs.Demand3.{run-text, run-check}
-use Rattle.demands.specs.Told.{Encodes, LineTells, Says, residualOf, WordTells, Unplannable, Told, too-long, unsound, many-atoms, many-nodes, many-operands, many-roots, unplanned, judged}
+use Rattle.demands.specs.Told.{Encodes, LineTells, Unplannable, Told, too-long, unsound, many-atoms, many-nodes, many-operands, many-roots, unplanned, judged}
 use Rattle.demands.proofs.Unplannable.{unplannable}
 use Rattle.demands.proofs.Candidates as candidates
-use Rattle.demands.proofs.Candidates.{each-among, atoms-are, passes}
+use Rattle.demands.proofs.Candidates.{atoms-are, passes}
 use Rattle.demands.proofs.Lines.{linesOf, flat-lines, length-lines, line-at, parts-at, length-series}
 
 -- ---- the buffers that a plan leaves are as long as they were lent
@@ -309,91 +306,3 @@ module _ (file : List ℕ) (bytes : Below 256 file) (short : length file ≤ 655
 -- FROM BYTES TO FERRARIS
 pub told : (file : List ℕ) → Below 256 file → Told file
 told file bytes = ⊎-elim (λ l. too-long l (sym (too-long-text file l))) (λ l. by-file file bytes l (theoryFile file) refl) (below-or 65536 (length file))
-
--- ---- the bytes of a line
-
-cancel : (xs ys zs : List ℕ) → xs ++ ys ≡ xs ++ zs → ys ≡ zs
-cancel [] ys zs e = e
-cancel (x ∷ xs) ys zs e = cancel xs ys zs (cc)
-
--- the second letter of the word tells the verdict
-letter : (k : ℕ) (xs ys : List ℕ) → xs ≡ ys → getD ys 1 0 ≡ k → getD xs 1 0 ≡ k
-letter k xs ys e q = ap (λ l. getD l 1 0) e ∙ q
-
-word-stable : (v : Verdict) (xs ys : List ℕ) → verdictText v ++ xs ≡ stableWord ++ ys → v ≡ stable
-unfolding verdictText
-word-stable (notModel k) xs ys e = let z : _≡_ {A = ℕ} 110 115 = letter 115 _ _ e refl in absurd (omega arith)
-word-stable (residual a) xs ys e = let z : _≡_ {A = ℕ} 114 115 = letter 115 _ _ e refl in absurd (omega arith)
-word-stable stable xs ys e = refl
-
-word-not-model : (v : Verdict) (xs ys : List ℕ) → verdictText v ++ xs ≡ notModelWord ++ ys → (k : ℕ) × (v ≡ notModel k)
-unfolding verdictText
-word-not-model (notModel k) xs ys e = (k, refl)
-word-not-model (residual a) xs ys e = let z : _≡_ {A = ℕ} 114 110 = letter 110 _ _ e refl in absurd (omega arith)
-word-not-model stable xs ys e = let z : _≡_ {A = ℕ} 115 110 = letter 110 _ _ e refl in absurd (omega arith)
-
-word-residual : (v : Verdict) (xs ys : List ℕ) → verdictText v ++ xs ≡ residualWord ++ ys → (a : ℕ) × (v ≡ residual a)
-unfolding verdictText
-word-residual (notModel k) xs ys e = let z : _≡_ {A = ℕ} 110 114 = letter 114 _ _ e refl in absurd (omega arith)
-word-residual (residual a) xs ys e = (a, refl)
-word-residual stable xs ys e = let z : _≡_ {A = ℕ} 115 114 = letter 114 _ _ e refl in absurd (omega arith)
-
--- the digits after `residual` are those of its atom
-residual-digits : (a n : ℕ) (digits rest : List ℕ) → Each Digit digits
-    → verdictText (residual a) ++ (spaced (n ∷ []) ++ (10 ∷ [])) ≡ residualOf digits ++ rest → decimal a ≡ digits
-unfolding verdictText spaced
-residual-digits a n digits rest d e =
-    let end : List ℕ = spaced (n ∷ []) ++ (10 ∷ []) in
-    digits-end (decimal a) digits _ rest (decimal-digits a) d
-    (sym (append-assoc (decimal a) [] end) ∙ cancel (residualWord ++ (32 ∷ [])) ((decimal a ++ []) ++ end) ((digits ++ (32 ∷ [])) ++ rest) e ∙ append-assoc digits (32 ∷ []) rest)
-
-module _ (f : TheoryFile) (sound-f : Sound f) (i : ℕ) (h : i < length (f .candidates)) (line : List ℕ) (w : LineTells f i (getD (f .candidates) i []) line) where
-  -- what stands after the verdict
-  abbrev end : List ℕ
-  end = spaced (w .gone-over ∷ []) ++ (10 ∷ [])
-
-  parts : line ≡ decimal i ++ (verdictText (w .verdict) ++ end)
-  unfolding verdictLine
-  parts =
-      w .says ∙ append-assoc (decimal i ++ verdictText (w .verdict)) (spaced (w .gone-over ∷ [])) (10 ∷ []) ∙ append-assoc (decimal i) (verdictText (w .verdict)) end
-
-  -- the line goes on with the word of its verdict
-  said : (word : List ℕ) → Says i word line → (rest : List ℕ) × (verdictText (w .verdict) ++ end ≡ word ++ rest)
-  said word z = (z .0, cancel (decimal i) _ _ (sym parts ∙ z .1))
-
-  says : (word rest : List ℕ) → verdictText (w .verdict) ≡ word ++ rest → Says i word line
-  says word rest e = (rest ++ end, parts ∙ ap (λ l. decimal i ++ (l ++ end)) e ∙ ap (λ l. decimal i ++ l) (append-assoc word rest end))
-
-  -- the verdict's atom is one of the candidate, so its digits say it
-  atom-said : (a : ℕ) → w .verdict ≡ residual a → value (decimal a) ≡ a
-  unfolding countsOf
-  atom-said a e =
-      let sound-c = each-at (SoundCandidate (f .atoms)) [] (f .candidates) (sound-f .candidates) i h in
-      let l : a < f .atoms = each-among (λ x. x < f .atoms) (getD (f .candidates) i []) (sound-c .0) a (w .decides .names-atom a .0 e .1 .present) in
-      value-decimal a (omega (arith, sound-f .limited .atoms))
-
-  residual-said : (digits : List ℕ) → Each Digit digits → Says i (residualOf digits) line → w .verdict ≡ residual (value digits)
-  residual-said digits d z =
-      let x = said (residualOf digits) z in
-      let v = word-residual (w .verdict) end ((32 ∷ (digits ++ (32 ∷ []))) ++ x .0) (x .1) in
-      let same : decimal (v .0) ≡ digits = residual-digits (v .0) (w .gone-over) digits (x .0) d (sym (ap (λ y. verdictText y ++ end) (v .1)) ∙ x .1) in
-      v .1 ∙ ap residual (sym (atom-said (v .0) (v .1)) ∙ ap value same)
-
-  pub word-tells : WordTells f i (getD (f .candidates) i []) line
-  unfolding verdictText
-  word-tells =
-      record {
-        stable = (
-          λ z. let x = said stableWord z in w .decides .stable-model .0 (word-stable (w .verdict) end (x .0) (x .1)),
-          λ x. says stableWord [] (ap verdictText (w .decides .stable-model .1 x)),
-        );
-        not-model = (
-          λ z. let x = said notModelWord z in w .decides .not-model .0 (word-not-model (w .verdict) end (x .0) (x .1)),
-          λ x. let k = w .decides .not-model .1 x in says notModelWord (spaced (k .0 ∷ [])) (ap verdictText (k .1)),
-        );
-        residual = (
-          λ z. let x = said residualWord z in w .decides .model-not-stable .0 (word-residual (w .verdict) end (x .0) (x .1)),
-          λ x. let a = w .decides .model-not-stable .1 x in says residualWord (spaced (a .0 ∷ [])) (ap verdictText (a .1)),
-        );
-        residual-shows = λ digits d z. w .residual-shows (value digits) (residual-said digits d z);
-      }

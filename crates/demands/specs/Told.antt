@@ -58,7 +58,8 @@ pub record WordTells (f : TheoryFile) (i : ℕ) (c line : List ℕ) : Type 0 whe
   pub stable : Says i stableWord line ↔ Stable (λ a. among a c) (ofList (theory f))
   pub not-model : Says i notModelWord line ↔ (all (λ a. among a c) (ofList (theory f)) ≡ false)
   pub residual : Says i residualWord line ↔ ((all (λ a. among a c) (ofList (theory f)) ≡ true) × (Stable (λ a. among a c) (ofList (theory f)) → ⊥))
-  -- the digits after `residual` say the lowest atom that can be taken out
+  -- after `residual` stand digits between two spaces, and they say the lowest atom that can be taken out
+  pub residual-digits : Says i residualWord line → (digits : List ℕ) × Each Digit digits × Says i (residualOf digits) line
   pub residual-shows : (digits : List ℕ) → Each Digit digits → Says i (residualOf digits) line → LowestRemovable (λ a. among a c) (theory f) (value digits)
 
 -- the number of a plan's refusal within a run: 10, 11 or 12

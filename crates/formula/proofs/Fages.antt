@@ -5,7 +5,7 @@ use native.Mathlib.Omega.{arith}
 use native.Mathlib.Nat.{not-suc-le-zero}
 use mathlib.Core.Path.{_≡_, refl, _∙_, sym}
 use mathlib.Core.Logic.{⊎-elim, _↔_}
-use mathlib.Core.Bool.{Bool, true, false, not, _&&_, true≢false, false≢true}
+use mathlib.Core.Bool.{Bool, true, false, not, true≢false, false≢true}
 use mathlib.Core.List.{List, [], _∷_}
 use lib.Dec.{eqb}
 use borrow.Author.Tests.{eqb-true, eq-eqb}
@@ -26,7 +26,7 @@ use Rattle.formula.proofs.Laws.{reduct-false, negation-kept, kept}
 without-proper : (I : Interpretation) (a : ℕ) → I a ≡ true → ProperSubset (without I a) I
 unfolding without
 without-proper I a i =
-    record { within = λ b. both-left (I b) (not (eqb b a)); lost = a; had = i; hasn't = simp (i, eq-eqb a a refl) }
+    record { within = λ b. both-left (I b) _; lost = a; had = i; hasn't = simp (i, eq-eqb a a refl) }
 
 module _ (I : Interpretation) (a : ℕ) where
   -- an atom other than a, or its negation

@@ -4,12 +4,10 @@ use Prim.Native.Nat.{ℕ}
 use native.Mathlib.Omega.{arith}
 use mathlib.Core.Path.{_≡_, refl, sym, ap, _∙_}
 use mathlib.Core.Logic.{_↔_}
-use mathlib.Core.Bool.{Bool, true, false, not, _&&_, and-false, true≢false}
+use mathlib.Core.Bool.{Bool, true, false, and-false, true≢false}
 use mathlib.Core.List.{List, map}
-use lib.Dec.{eqb}
 use borrow.Author.Tests.{eq-eqb, ne-eqb}
 use Rattle.formula.specs.Satisfaction.{Interpretation, all}
-use Rattle.formula.specs.Reduct.{reducts}
 use Rattle.formula.specs.Removable.{without, Removable, LowestRemovable}
 use Rattle.formula.specs.Root.{Root, rootFormula, theory}
 use Rattle.formula.specs.Plan.{Planned}
