@@ -91,11 +91,10 @@ fn turn_pair(counts: Counts, readers: &[u64], kept: &mut [u32], j: usize, new: u
     requires { ⌜ ((T : Tables) (k : ℕ) → k < 64 → unlike (present (ofWords (listed counts (now readers) T) (now kept)) (j * 64 + k)) (bit new k) ≡ true → j * 64 + k < counts .atoms) ⌝ }
     ensures { λ r. ⌜ ((T : Tables) (J : Interpretation) → ((k : ℕ) → k < 64 → J (j * 64 + k) ≡ bit new k) → Wrote (listed counts (now (readers .entry)) T) (now (kept .entry)) (allTurned (listed counts (now (readers .entry)) T) J (places (λ a. unlike (present (ofWords (listed counts (now (readers .entry)) T) (now (kept .entry))) a) (J a)) (j * 64) 64) (ofWords (listed counts (now (readers .entry)) T) (now (kept .entry)))) r (now (kept .exit))) ⌝ }
 {
-    let x = old_pair(counts, kept, j) ^ new;
+    let mut x = old_pair(counts, kept, j) ^ new;
     lay_pair(counts, kept, j, new);
-    let mut i = 0;
     loop {
-        let k = words::bits(x, i);
+        let k = words::bits(x, 0);
         if k == 64 {
             return true;
         }
@@ -103,7 +102,7 @@ fn turn_pair(counts: Counts, readers: &[u64], kept: &mut [u32], j: usize, new: u
         if !turn_atom(counts, readers, kept, a, (new >> k) % 2 == 1) {
             return false;
         }
-        i += 1;
+        x = x & (x - 1);
     }
 }
 

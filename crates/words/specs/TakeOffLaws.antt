@@ -1,4 +1,4 @@
--- The lowest set digit of a word is taken off by `and` with the number before it.
+-- The lowest set digit of a word, its first place, is taken off by `and` with the number before it.
 -- Assumes nothing.
 use Prim.Native.Nat.{ℕ, zero, suc, _<_, _-_, _/_, _%_, _^_}
 use native.Mathlib.Nat.{div-add-mod', div-one, one-mul, max-zero}
@@ -6,13 +6,16 @@ use native.Mathlib.Numerals.{add-one, one-add}
 use native.Mathlib.Omega.{arith}
 use mathlib.Core.Path.{_≡_, refl, ap, sym, _∙_}
 use mathlib.Core.Bool.{true}
+use mathlib.Core.List.{_∷_}
 use lib.Arith.{lt-one}
 use lib.Pow.{shr-lt}
-use lib.Bits.{bitAnd, bitOr, bitXor, and-self, and-step, or-step, or-zero-r, xor-step, xor-zero-r, shifted-half, shifted-even}
+use lib.Bits.{bitAnd, bitOr, bitXor, and-le-l, and-self, and-step, or-step, or-zero-r, xor-step, xor-zero-r, shifted-half, shifted-even}
 use lib.Count.{trailingZeros, under}
 use borrow.Author.Tests.{eqb-true}
+use Rattle.base.specs.Tests.{both-left}
+use Rattle.base.specs.Places.{places}
 use Rattle.words.specs.Bit.{bit}
-use Rattle.words.specs.BitLaws.{bit-shift, trailing-set}
+use Rattle.words.specs.BitLaws.{bit-shift, bit-and, trailing-set, places-trailing}
 
 digit : (x i : ℕ) → bit x i ≡ true → x / 2 ^ i % 2 ≡ 1
 unfolding bit
@@ -56,3 +59,14 @@ lowest-off (suc w) x p h = go (x % 2) refl (λ q. lowest-off w (x / 2) q (shr-lt
 -- as the code stores it
 pub digit-off : (w x : ℕ) → 0 < x → x < 2 ^ w → bitAnd x (x - 1) ≡ bitXor (bitOr x (2 ^ trailingZeros w x)) (2 ^ trailingZeros w x)
 digit-off w x p h = lowest-off w x p h ∙ rw (or-set x (trailingZeros w x) (trailing-set w x p h))
+
+-- the first place is taken off, and the others are left
+pub places-off : (w x : ℕ) → 0 < x → x < 2 ^ w → places (bit x) 0 w ≡ trailingZeros w x ∷ places (bit (bitAnd x (x - 1))) 0 w
+places-off w x p h = rw (lowest-off w x p h) (places-trailing w x p h)
+
+pub off-small : (w x : ℕ) → x < 2 ^ w → bitAnd x (x - 1) < 2 ^ w
+off-small w x h = omega (arith, and-le-l x (x - 1))
+
+-- a digit that is set then was set before
+pub off-set : (x k : ℕ) → bit (bitAnd x (x - 1)) k ≡ true → bit x k ≡ true
+off-set x k e = both-left (bit x k) (bit (x - 1) k) (sym (bit-and x (x - 1) k) ∙ e)

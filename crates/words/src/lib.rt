@@ -64,14 +64,14 @@ pub fn smaller(a: usize, b: usize) -> usize
 pub fn bits(word: u64, i: usize) -> u32
     ensures { λ r. ⌜ r ≡ getD (places (bit word) 0 64) i 64 ⌝ }
 {
-    let mut laid = [0u32; 64];
-    let mut n = 0;
     let mut x = word;
-    while x != 0 {
-        let t = u64::trailing_zeros(x);
-        laid[n] = t;
-        x = x ^ (1u64 << t);
-        n += 1;
+    let mut left = i;
+    while left > 0 {
+        if x == 0 {
+            return 64;
+        }
+        x = x & (x - 1);
+        left -= 1;
     }
-    if i < n { laid[i] } else { 64 }
+    u64::trailing_zeros(x)
 }
