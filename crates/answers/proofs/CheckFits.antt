@@ -25,7 +25,7 @@ use Rattle.theory.specs.declared.Admission.the-variants.{Admitted, Refused}
 use Rattle.theory.specs.declared.Refusal.{Refusal}
 use Rattle.theory.specs.declared.Refusal.the-variants.{ShortBuffer, ForeignStamp, StrayBit, BadEntry}
 use Rattle.kept.specs.CountedSet.{CountedSet, Lookup, empty, astray, at, lookup, andThen}
-use Rattle.kept.specs.Worklist.{Worklist, withFirst, withoutFirst}
+use Rattle.kept.specs.Worklist.{Worklist, withoutFirst}
 use Rattle.kept.specs.SetOf.{words64}
 use Rattle.kept.specs.Tables.{Tables, atomCount, nodeCount, rootCount, rootAt, headAt, bodyAt, readersAt}
 use Rattle.kept.specs.Seen.{seenBy}
@@ -33,7 +33,7 @@ use Rattle.kept.specs.Evaluation.{Evaluation, truth, truthAt, truthWord, fresh}
 use Rattle.kept.specs.Verdict.{Verdict, notModel, residual, stable, verdict, judged, verdictOf}
 use Rattle.kept.specs.VerdictLaws.{verdict-fresh}
 use Rattle.kept.specs.Parts.{withTruths, withWorklist}
-use Rattle.kept.specs.Step.{Stepped, idle, took, fault, readersUpdated, tookAt, settled, leftAt, leaving, settledFrom, seen, stepAt, step}
+use Rattle.kept.specs.Step.{Stepped, idle, took, fault, tookAt, settled, settledFrom, seen, stepAt, step, readersUpdated}
 use Rattle.kept.specs.Start.{walkStart}
 use Rattle.kept.specs.Walk.{Walked, ended, broken, after, onward, walk, walkFrom, keptWalk}
 use Rattle.kept.specs.Check as check
@@ -114,15 +114,6 @@ module _ (T : Tables) where
       go true o h = took-place k m o h
       go false o h = let z : _≡_ {A = ℕ} 0 1 = cc in absurd (omega arith)
 
-  leaving-place : (k m : ℕ) (s : Stepped) → ((j : ℕ) → s ≡ fault j → k ≡ j) → leaving (nodeCount T) s ≡ fault m → (k ≡ m) ⊎ (0 ≡ m)
-  leaving-place k m idle p h = let z : _≡_ {A = ℕ} 0 1 = cc in absurd (omega arith)
-  leaving-place k m (fault j) p h = inl (p m h)
-  leaving-place k m (took j d) p h = left (withoutFirst (nodeCount T) (d .worklist)) h
-    where
-      left : (o : Option Worklist) → leftAt j d o ≡ fault m → (k ≡ m) ⊎ (0 ≡ m)
-      left none h = inr cc
-      left (some w) h = let z : _≡_ {A = ℕ} 0 1 = cc in absurd (omega arith)
-
   step-place : (m : ℕ) (e : Evaluation) → step T e ≡ fault m → m ≤ nodeCount T
   unfolding step stepAt
   step-place m e h = go (ltb k n) (eqb k n) refl h
@@ -133,16 +124,14 @@ module _ (T : Tables) where
       n : ℕ
       n = nodeCount T
 
-      either : (t b : Bool) → cond b (settled T k t (withWorklist e (withFirst (e .worklist) n))) (leaving n (settled T k t e)) ≡ fault m → (k ≡ m) ⊎ (0 ≡ m)
-      either t true h = inl (settled-place k m t (withWorklist e (withFirst (e .worklist) n)) h)
-      either t false h = leaving-place k m (settled T k t e) (λ j. settled-place k j t e) h
+      from : (t : Option Bool) (w : Option Worklist) → settledFrom T k e t w ≡ fault m → (k ≡ m) ⊎ (0 ≡ m)
+      from none w h = inl cc
+      from (some t) none h = inr cc
+      from (some t) (some w) h = inl (settled-place k m t (withWorklist e w) h)
 
-      from : (t : Option Bool) → settledFrom T k e t ≡ fault m → (k ≡ m) ⊎ (0 ≡ m)
-      from none h = inl cc
-      from (some t) h = either t (eqb (e .worklist .others .size) 0) h
-
-      go : (a b : Bool) → ltb k n ≡ a → cond a (settledFrom T k e (seen T e k)) (cond b idle (fault 0)) ≡ fault m → m ≤ n
-      go true b q h = ⊎-elim (λ p. omega (arith, ltb-true k n q, p)) (λ p. omega (arith, p)) (from (seen T e k) h)
+      go : (a b : Bool) → ltb k n ≡ a
+          → cond a (settledFrom T k e (seen T e k) (withoutFirst n (e .worklist))) (cond b idle (fault 0)) ≡ fault m → m ≤ n
+      go true b q h = ⊎-elim (λ p. omega (arith, ltb-true k n q, p)) (λ p. omega (arith, p)) (from (seen T e k) (withoutFirst n (e .worklist)) h)
       go false true q h = let z : _≡_ {A = ℕ} 0 1 = cc in absurd (omega arith)
       go false false q h = let z : 0 ≡ m = cc in omega (arith, z)
 

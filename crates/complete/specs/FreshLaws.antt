@@ -23,7 +23,7 @@ use Rattle.kept.specs.SetOfLaws.{member-setOf}
 use Rattle.kept.specs.CountedSet.{countedSet}
 use Rattle.kept.specs.CountedSetLaws.{counted-agree}
 use Rattle.kept.specs.Worklist.{filled, butLowest, worklistOf}
-use Rattle.kept.specs.WorklistLaws.{first-none}
+use Rattle.kept.specs.WorklistLaws.{lists-of, first-none}
 use Rattle.kept.specs.Tables.{Tables, atomCount, nodeCount, rootCount}
 use Rattle.kept.specs.Evaluation.{Evaluation, truthAt, present, noMembers, truthWord, held, truth, support, falseRoot, summary, fresh}
 use Rattle.complete.specs.Phases.{lacks, begun, truthsLaid, supportLaid, missingLaid, rootsLaid, summarised}
@@ -46,11 +46,12 @@ no-group n q = ap (λ x. not (eqb x 0)) (⊎-elim
     (λ l. List·getD-eq-default (replicate (words32 n) 0) 0 {n = q} (omega (arith, length-replicate {A = ℕ} (words32 n) 0)))
     (below-or q (words32 n)))
 
-nothing-listed : (n : ℕ) → record { first = n; others = noMembers n; groups = replicate (words32 n) 0 } ≡ worklistOf (λ k. false) n
+nothing-listed : (n : ℕ) → record { first = n; second = 0; others = noMembers n; groups = replicate (words32 n) 0 } ≡ worklistOf (λ k. false) n
 unfolding worklistOf butLowest
 nothing-listed n = λ i.
     record {
-      first = sym (first-none (λ k. false) n (λ j l. refl)) i;
+      first = sym (first-none (λ k. false) n (worklistOf (λ k. false) n) (lists-of n (λ k. false)) (λ j l. refl)) i;
+      second = 0;
       others = nobody (butLowest (λ k. false) n) n (λ j. refl) i;
       groups = (no-word (filled (replicate (words32 n) 0)) n (no-group n) ∙ ap (λ l. setOf (filled l) n) (no-word (butLowest (λ k. false) n) n (λ j. refl))) i;
     }

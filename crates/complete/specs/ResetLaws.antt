@@ -38,9 +38,9 @@ module _ (T : Tables) (ws : List ℕ) (long : used T ≤ length ws) where
   fits : Fits T e
   fits = fits-of T ws long
 
-  pub header-laid : set (set (set (set (set (set ws 0 1) 1 (T .counts .stamp)) 2 0) 3 0) 4 0) 5 (nodeCount T) ≡ written T ws (opened T e)
+  pub header-laid : set (set (set (set (set (set (set ws 0 1) 1 (T .counts .stamp)) 2 0) 3 0) 4 0) 5 (nodeCount T)) 6 0 ≡ written T ws (opened T e)
   unfolding written image flat opened
-  header-laid = ap (λ w. set (set (set (set (set (set w 0 1) 1 (T .counts .stamp)) 2 0) 3 0) 4 0) 5 (nodeCount T)) (sym (written-same T ws long))
+  header-laid = ap (λ w. set (set (set (set (set (set (set w 0 1) 1 (T .counts .stamp)) 2 0) 3 0) 4 0) 5 (nodeCount T)) 6 0) (sym (written-same T ws long))
 
   -- the candidate's section given back as y
   pub halves-laid : (words y : List ℕ) → y ≡ tabulate (length (take (missingStart T - candidateStart T) (drop (candidateStart T) ws))) (half words)

@@ -94,23 +94,23 @@ module _ (t : Counts) (ws : List ℕ) where
 
     module _ (small : x < 2 ^ 32) (ne : x / 2 ^ (i % 32) ≡ 0 → ⊥) where
       zeros : ℕ
-      zeros = trailingZeros 32 (x / 2 ^ (i % 32))
+      zeros = trailingZeros 64 (x / 2 ^ (i % 32))
 
       below : zeros < 32 - i % 32
       unfolding zeros
-      below = trailing-below 32 (32 - i % 32) (x / 2 ^ (i % 32)) (omega arith)
+      below = trailing-below 64 (32 - i % 32) (x / 2 ^ (i % 32)) (omega arith)
           (shr-lt (32 - i % 32) (i % 32) (let e : 32 - i % 32 + i % 32 ≡ 32 = omega arith in rw e small))
           (omega arith)
 
-      pub word-found : nextLacking t ws i ≡ i + trailingZeros 32 (x / 2 ^ (i % 32))
+      pub word-found : nextLacking t ws i ≡ i + trailingZeros 64 (x / 2 ^ (i % 32))
       unfolding nextLacking zeros
       word-found = sym (lowest-only (lacksIn t ws) i (t .atoms - i) (i + zeros) (record {
         from = omega arith;
         within = omega (arith, below);
         before = λ k a b.
             let e : i + (k - i) ≡ k = omega arith in
-            rw (← e) (rest-digit (k - i) (omega (arith, below)) ∙ trailing-is 32 (x / 2 ^ (i % 32)) .before (k - i) (omega arith) (omega arith));
-        here = λ h. rest-digit zeros (omega (arith, below)) ∙ trailing-is 32 (x / 2 ^ (i % 32)) .here (omega (arith, below));
+            rw (← e) (rest-digit (k - i) (omega (arith, below)) ∙ trailing-is 64 (x / 2 ^ (i % 32)) .before (k - i) (omega arith) (omega arith));
+        here = λ h. rest-digit zeros (omega (arith, below)) ∙ trailing-is 64 (x / 2 ^ (i % 32)) .here (omega (arith, below));
       }))
 
   -- ---- that word: the candidate's word q without the atoms that have support

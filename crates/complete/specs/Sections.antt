@@ -59,8 +59,8 @@ module _ (T : Tables) (ws : List ℕ) (long : used T ≤ length ws) (e : Evaluat
   abbrev rest : List ℕ
   rest = section T ws 9
 
-  two : length unused ≡ 2
-  two = length-unused T ws long
+  one : length unused ≡ 1
+  one = length-unused T ws long
 
   -- worklist and support; missing atoms, false roots and the worklist's groups
   pub lend-worklist-support : (y z : List ℕ) → take (worklistStart T) (written T ws e) ++ (flat (y ∷ z ∷ []) ++ drop (candidateStart T) (written T ws e))
@@ -71,7 +71,7 @@ module _ (T : Tables) (ws : List ℕ) (long : used T ≤ length ws) (e : Evaluat
       (e .candidate ∷ e .missing .members ∷ e .falseRoots .members ∷ e .worklist .groups ∷ rest ∷ []) (worklistStart T) (candidateStart T) from to
     where
       from : worklistStart T ≡ length (flat (header e ∷ unused ∷ e .truths ∷ []))
-      from = simp length-append (omega (arith, two, fits .truths))
+      from = simp length-append (omega (arith, one, fits .truths))
 
       to : candidateStart T ≡ worklistStart T + length (flat (e .worklist .others .members ∷ e .support ∷ []))
       to = simp length-append (omega (arith, fits .worklist, fits .support))
@@ -84,7 +84,7 @@ module _ (T : Tables) (ws : List ℕ) (long : used T ≤ length ws) (e : Evaluat
       (e .missing .members ∷ e .falseRoots .members ∷ e .worklist .groups ∷ []) (x ∷ y ∷ z ∷ []) (rest ∷ []) (missingStart T) (used T) from to
     where
       from : missingStart T ≡ length (flat (header e ∷ unused ∷ e .truths ∷ e .worklist .others .members ∷ e .support ∷ e .candidate ∷ []))
-      from = simp length-append (omega (arith, two, fits .truths, fits .worklist, fits .support, fits .candidate))
+      from = simp length-append (omega (arith, one, fits .truths, fits .worklist, fits .support, fits .candidate))
 
       to : used T ≡ missingStart T + length (flat (e .missing .members ∷ e .falseRoots .members ∷ e .worklist .groups ∷ []))
       to = simp length-append (omega (arith, fits .missing, fits .falseRoots, fits .groups))

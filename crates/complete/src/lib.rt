@@ -61,7 +61,7 @@ fn lay_candidate(counts: Counts, candidate: &[u64], kept: &mut [u32])
     lay_halves(candidate, &mut kept[at..end]);
 }
 
-// A check is held; no missing atom, false root or node on the worklist is counted, and the worklist has no first node.
+// A check is held; no missing atom, false root or node on the worklist is counted, and the worklist has no first node and no second.
 fn lay_header(counts: Counts, kept: &mut [u32])
     requires { ⌜ Limited counts × (usedBy counts ≤ length (now kept)) ⌝ }
     ensures { λ _. ⌜ ((T : Tables) → now (kept .exit) ≡ written (sized counts T) (now (kept .entry)) (opened (sized counts T) (ofWords (sized counts T) (now (kept .entry))))) ⌝ }
@@ -72,6 +72,7 @@ fn lay_header(counts: Counts, kept: &mut [u32])
     kept[3] = 0;
     kept[4] = 0;
     kept[5] = counts.nodes as u32;
+    kept[6] = 0;
 }
 
 // All but truth: the candidate, and nothing summarised.
@@ -250,7 +251,7 @@ fn next_lacking(counts: Counts, kept: &[u32], from: usize) -> usize
     while a / 32 < counts.atoms / 32 {
         let x = lacking(counts, kept, a / 32) >> (a % 32);
         if x != 0 {
-            return a + u32::trailing_zeros(x) as usize;
+            return a + words::bits(x as u64, 0) as usize;
         }
         a = a / 32 * 32 + 32;
     }

@@ -19,8 +19,8 @@ unfolding step stepAt summary held
 by-consistent T good =
     record {
       begins = start-fresh T good;
-      takes = step-summary T good;
-      ends = λ v w c h. rw (first-none w (nodeCount T) h, le-ltb (nodeCount T) (nodeCount T) (omega arith), eq-eqb (nodeCount T) (nodeCount T) refl);
+      takes = λ v w c L k x. step-summary T good v w c L x k;
+      ends = λ v w c L x h. rw (first-none w (nodeCount T) L x h, le-ltb (nodeCount T) (nodeCount T) (omega arith), eq-eqb (nodeCount T) (nodeCount T) refl);
     }
 
 pub plain-walk : (T : Tables) → PlannedTables T → PlainWalk T

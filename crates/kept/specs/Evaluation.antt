@@ -43,7 +43,7 @@ zeroed T =
       state = 0;
       stamp = 0;
       truths = replicate (nodeCount T) 0;
-      worklist = record { first = 0; others = noMembers (nodeCount T); groups = replicate (words32 (nodeCount T)) 0 };
+      worklist = record { first = 0; second = 0; others = noMembers (nodeCount T); groups = replicate (words32 (nodeCount T)) 0 };
       support = replicate (atomCount T) 0;
       candidate = replicate (words32 (atomCount T)) 0;
       missing = noMembers (atomCount T);
@@ -55,13 +55,13 @@ truthWord true = 1
 truthWord false = 0
 
 -- a held check: truth v, worklist w, support s, candidate c, false roots f
-unfoldable pub held : Tables → (ℕ → Bool) → (ℕ → Bool) → (ℕ → ℕ) → (ℕ → Bool) → (ℕ → Bool) → Evaluation
+unfoldable pub held : Tables → (ℕ → Bool) → Worklist → (ℕ → ℕ) → (ℕ → Bool) → (ℕ → Bool) → Evaluation
 held T v w s c f =
     record {
       state = 1;
       stamp = T .counts .stamp;
       truths = tabulate (nodeCount T) (λ k. truthWord (v k));
-      worklist = worklistOf w (nodeCount T);
+      worklist = w;
       support = tabulate (atomCount T) s;
       candidate = setOf c (atomCount T);
       missing = countedSet (λ a. c a && eqb (s a) 0) (atomCount T);
@@ -89,9 +89,9 @@ unfoldable pub falseRoot : Tables → (ℕ → Bool) → ℕ → Bool
 falseRoot T v r = not (v (rootAt T r))
 
 -- support, missing atoms and false roots summarised from truth v and candidate c
-unfoldable pub summary : Tables → (ℕ → Bool) → (ℕ → Bool) → (ℕ → Bool) → Evaluation
+unfoldable pub summary : Tables → (ℕ → Bool) → Worklist → (ℕ → Bool) → Evaluation
 summary T v w c = held T v w (support T v) c (falseRoot T v)
 
 -- the candidate I, and nothing on the worklist
 unfoldable pub fresh : Tables → Interpretation → Evaluation
-fresh T I = summary T (truth T I) (λ k. false) I
+fresh T I = summary T (truth T I) (worklistOf (λ k. false) (nodeCount T)) I

@@ -16,24 +16,24 @@ use Rattle.kept.specs.SetOf.{setOf}
 use Rattle.kept.specs.SetOfLaws.{member-below, setOf-agree}
 use Rattle.kept.specs.CountedSet.{andThen, countedSet, withBit, withMember, moved}
 use Rattle.kept.specs.CountedSetLaws.{counted-agree, bit-set, member-set}
-use Rattle.kept.specs.WorklistLaws.{worklist-same, node-entered}
+use Rattle.kept.specs.Worklist.{Worklist, withNode}
 use Rattle.kept.specs.Tables.{Tables, atomCount, nodeCount, rootCount, headAt}
 use Rattle.kept.specs.Evaluation.{Evaluation, truthAt, present, truthWord, held}
 use Rattle.kept.specs.Parts.{withTruths, withSupport, withCandidate, withFalseRoots}
 use Rattle.kept.specs.Step.{entered, missingBy, supportMoved, rootTurned, readerUpdated, readersUpdated}
 
 module _ (T : Tables) where
-  pub held-agree : (v v′ w w′ : ℕ → Bool) (s s′ : ℕ → ℕ) (c c′ f f′ : ℕ → Bool)
-      → ((k : ℕ) → k < nodeCount T → v k ≡ v′ k) → ((k : ℕ) → k < nodeCount T → w k ≡ w′ k)
+  pub held-agree : (v v′ : ℕ → Bool) (w : Worklist) (s s′ : ℕ → ℕ) (c c′ f f′ : ℕ → Bool)
+      → ((k : ℕ) → k < nodeCount T → v k ≡ v′ k)
       → ((a : ℕ) → a < atomCount T → s a ≡ s′ a) → ((a : ℕ) → a < atomCount T → c a ≡ c′ a)
-      → ((r : ℕ) → r < rootCount T → f r ≡ f′ r) → held T v w s c f ≡ held T v′ w′ s′ c′ f′
+      → ((r : ℕ) → r < rootCount T → f r ≡ f′ r) → held T v w s c f ≡ held T v′ w s′ c′ f′
   unfolding held
-  held-agree v v′ w w′ s s′ c c′ f f′ hv hw hs hc hf = λ i.
+  held-agree v v′ w s s′ c c′ f f′ hv hs hc hf = λ i.
       record {
         state = 1;
         stamp = T .counts .stamp;
         truths = tabulate-agree (nodeCount T) (λ k. truthWord (v k)) (λ k. truthWord (v′ k)) (λ k l. ap truthWord (hv k l)) i;
-        worklist = worklist-same w w′ (nodeCount T) hw i;
+        worklist = w;
         support = tabulate-agree (atomCount T) s s′ hs i;
         candidate = setOf-agree c c′ (atomCount T) hc i;
         missing = counted-agree (λ a. c a && eqb (s a) 0) (λ a. c′ a && eqb (s′ a) 0) (atomCount T) (λ a l. ap₂ (λ x y. x && eqb y 0) (hc a l) (hs a l)) i;
@@ -41,16 +41,13 @@ module _ (T : Tables) where
       }
 
   -- one part alone
-  pub worklist-agree : (v w w′ : ℕ → Bool) (s : ℕ → ℕ) (c f : ℕ → Bool) → ((k : ℕ) → k < nodeCount T → w k ≡ w′ k) → held T v w s c f ≡ held T v w′ s c f
-  worklist-agree v w w′ s c f h = held-agree v v w w′ s s c c f f (λ k l. refl) h (λ a l. refl) (λ a l. refl) (λ r l. refl)
+  pub support-agree : (v : ℕ → Bool) (w : Worklist) (s s′ : ℕ → ℕ) (c f : ℕ → Bool) → ((a : ℕ) → a < atomCount T → s a ≡ s′ a) → held T v w s c f ≡ held T v w s′ c f
+  support-agree v w s s′ c f h = held-agree v v w s s′ c c f f (λ k l. refl) h (λ a l. refl) (λ r l. refl)
 
-  pub support-agree : (v w : ℕ → Bool) (s s′ : ℕ → ℕ) (c f : ℕ → Bool) → ((a : ℕ) → a < atomCount T → s a ≡ s′ a) → held T v w s c f ≡ held T v w s′ c f
-  support-agree v w s s′ c f h = held-agree v v w w s s′ c c f f (λ k l. refl) (λ k l. refl) h (λ a l. refl) (λ r l. refl)
+  pub roots-agree : (v : ℕ → Bool) (w : Worklist) (s : ℕ → ℕ) (c f f′ : ℕ → Bool) → ((r : ℕ) → r < rootCount T → f r ≡ f′ r) → held T v w s c f ≡ held T v w s c f′
+  roots-agree v w s c f f′ h = held-agree v v w s s c c f f′ (λ k l. refl) (λ a l. refl) (λ a l. refl) h
 
-  pub roots-agree : (v w : ℕ → Bool) (s : ℕ → ℕ) (c f f′ : ℕ → Bool) → ((r : ℕ) → r < rootCount T → f r ≡ f′ r) → held T v w s c f ≡ held T v w s c f′
-  roots-agree v w s c f f′ h = held-agree v v w w s s c c f f′ (λ k l. refl) (λ k l. refl) (λ a l. refl) (λ a l. refl) h
-
-  module _ (v w : ℕ → Bool) (s : ℕ → ℕ) (c f : ℕ → Bool) where
+  module _ (v : ℕ → Bool) (w : Worklist) (s : ℕ → ℕ) (c f : ℕ → Bool) where
     -- ---- what it shows
 
     nonzero : (b : Bool) → not (eqb (truthWord b) 0) ≡ b
@@ -142,13 +139,14 @@ module _ (T : Tables) where
 
     -- ---- a reader told
 
-    pub entered-held : (m : ℕ) → m < nodeCount T → entered T m (held T v w s c f) ≡ some (held T v (updated w m true) s c f)
+    pub entered-held : (m : ℕ) (w′ : Worklist) → withNode (nodeCount T) w m ≡ some w′ → entered T m (held T v w s c f) ≡ some (held T v w′ s c f)
     unfolding entered held
-    entered-held m l = rw (node-entered w (nodeCount T) m l)
+    entered-held m w′ e = rw e
 
-    pub node-told : (k m : ℕ) (t : Bool) → k < m → m < nodeCount T → readerUpdated T k t (held T v w s c f) (Node m) ≡ some (held T v (updated w m true) s c f)
+    pub node-told : (k m : ℕ) (t : Bool) (w′ : Worklist) → k < m → m < nodeCount T → withNode (nodeCount T) w m ≡ some w′
+        → readerUpdated T k t (held T v w s c f) (Node m) ≡ some (held T v w′ s c f)
     unfolding readerUpdated
-    node-told k m t h l = rw (lt-ltb k m h, lt-ltb m (nodeCount T) l) (entered-held m l)
+    node-told k m t w′ h l e = rw (lt-ltb k m h, lt-ltb m (nodeCount T) l) (entered-held m w′ e)
 
     pub root-told : (k r : ℕ) (t : Bool) → r < rootCount T → readerUpdated T k t (held T v w s c f) (Root r) ≡ some (held T v w s c (updated f r (not t)))
     unfolding readerUpdated rootTurned

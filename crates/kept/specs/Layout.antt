@@ -16,13 +16,13 @@ unfoldable pub cut : List ℕ → List ℕ → List (List ℕ)
 cut [] ws = ws ∷ []
 cut (n ∷ ns) ws = take n ws ∷ cut ns (drop n ws)
 
--- a header of 8 words, the last 2 unused; then truth, worklist, support, candidate, missing atoms, false roots, groups of the worklist; the rest is unused
+-- a header of 8 words, the last one unused; then truth, worklist, support, candidate, missing atoms, false roots, groups of the worklist; the rest is unused
 abbrev pub lengths : Tables → List ℕ
 lengths T =
-    6 ∷ 2 ∷ nodeCount T ∷ words32 (nodeCount T) ∷ atomCount T ∷ words32 (atomCount T) ∷ words32 (atomCount T) ∷ words32 (rootCount T) ∷ words32 (nodeCount T) ∷ []
+    7 ∷ 1 ∷ nodeCount T ∷ words32 (nodeCount T) ∷ atomCount T ∷ words32 (atomCount T) ∷ words32 (atomCount T) ∷ words32 (rootCount T) ∷ words32 (nodeCount T) ∷ []
 
 abbrev pub header : Evaluation → List ℕ
-header e = e .state ∷ e .stamp ∷ e .missing .size ∷ e .falseRoots .size ∷ e .worklist .others .size ∷ e .worklist .first ∷ []
+header e = e .state ∷ e .stamp ∷ e .missing .size ∷ e .falseRoots .size ∷ e .worklist .others .size ∷ e .worklist .first ∷ e .worklist .second ∷ []
 
 abbrev pub parts : Evaluation → List ℕ → List ℕ → List (List ℕ)
 parts e unused rest =
@@ -42,7 +42,7 @@ ofWords T ws =
       state = getD ws 0 0;
       stamp = getD ws 1 0;
       truths = section T ws 2;
-      worklist = record { first = getD ws 5 0; others = record { members = section T ws 3; size = getD ws 4 0 }; groups = section T ws 8 };
+      worklist = record { first = getD ws 5 0; second = getD ws 6 0; others = record { members = section T ws 3; size = getD ws 4 0 }; groups = section T ws 8 };
       support = section T ws 4;
       candidate = section T ws 5;
       missing = record { members = section T ws 6; size = getD ws 2 0 };

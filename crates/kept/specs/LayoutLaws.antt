@@ -60,13 +60,13 @@ pub section-rest : (T : Tables) (ws : List ℕ) → section T ws 9 ≡ drop (use
 unfolding cut
 section-rest T ws = simp drop-drop
 
-module _ (T : Tables) (e : Evaluation) (fits : Fits T e) (unused rest : List ℕ) (two : length unused ≡ 2) where
+module _ (T : Tables) (e : Evaluation) (fits : Fits T e) (unused rest : List ℕ) (one : length unused ≡ 1) where
   abbrev ps : List (List ℕ)
   ps = parts e unused rest
 
   cut-image : cut (lengths T) (image e unused rest) ≡ ps
   unfolding image
-  cut-image = cut-flat (lengths T) ps (refl, (two, (fits .truths, (fits .worklist, (fits .support, (fits .candidate, (fits .missing, (fits .falseRoots, (fits .groups, tt)))))))))
+  cut-image = cut-flat (lengths T) ps (refl, (one, (fits .truths, (fits .worklist, (fits .support, (fits .candidate, (fits .missing, (fits .falseRoots, (fits .groups, tt)))))))))
 
   pub of-image : ofWords T (image e unused rest) ≡ e
   unfolding ofWords image flat
@@ -78,7 +78,7 @@ module _ (T : Tables) (e : Evaluation) (fits : Fits T e) (unused rest : List ℕ
             state = e .state;
             stamp = e .stamp;
             truths = getD c 2 [];
-            worklist = record { first = e .worklist .first; others = record { members = getD c 3 []; size = e .worklist .others .size }; groups = getD c 8 [] };
+            worklist = record { first = e .worklist .first; second = e .worklist .second; others = record { members = getD c 3 []; size = e .worklist .others .size }; groups = getD c 8 [] };
             support = getD c 4 [];
             candidate = getD c 5 [];
             missing = record { members = getD c 6 []; size = e .missing .size };
@@ -97,29 +97,30 @@ module _ (T : Tables) (e : Evaluation) (fits : Fits T e) (unused rest : List ℕ
   pub length-image : length (image e unused rest) ≡ used T + length rest
   unfolding image flat
   length-image =
-      simp length-append (omega (arith, two, fits .truths, fits .worklist, fits .support, fits .candidate, fits .missing, fits .falseRoots, fits .groups))
+      simp length-append (omega (arith, one, fits .truths, fits .worklist, fits .support, fits .candidate, fits .missing, fits .falseRoots, fits .groups))
 
 -- ---- any words are the image of an evaluation
 
 module _ (T : Tables) (ws : List ℕ) (long : used T ≤ length ws) where
-  first : (xs : List ℕ) → 6 ≤ length xs → getD xs 0 0 ∷ getD xs 1 0 ∷ getD xs 2 0 ∷ getD xs 3 0 ∷ getD xs 4 0 ∷ getD xs 5 0 ∷ [] ≡ take 6 xs
+  first : (xs : List ℕ) → 7 ≤ length xs → getD xs 0 0 ∷ getD xs 1 0 ∷ getD xs 2 0 ∷ getD xs 3 0 ∷ getD xs 4 0 ∷ getD xs 5 0 ∷ getD xs 6 0 ∷ [] ≡ take 7 xs
   first [] l = absurd (omega arith)
   first (a ∷ []) l = absurd (omega arith)
   first (a ∷ b ∷ []) l = absurd (omega arith)
   first (a ∷ b ∷ c ∷ []) l = absurd (omega arith)
   first (a ∷ b ∷ c ∷ d ∷ []) l = absurd (omega arith)
   first (a ∷ b ∷ c ∷ d ∷ e ∷ []) l = absurd (omega arith)
-  first (a ∷ b ∷ c ∷ d ∷ e ∷ f ∷ xs) l = refl
+  first (a ∷ b ∷ c ∷ d ∷ e ∷ f ∷ []) l = absurd (omega arith)
+  first (a ∷ b ∷ c ∷ d ∷ e ∷ f ∷ g ∷ xs) l = refl
 
   pub image-of : image (ofWords T ws) (section T ws 1) (section T ws 9) ≡ ws
   unfolding image ofWords cut flat
   image-of =
-      ap (λ h. h ++ flat (cut (2 ∷ nodeCount T ∷ words32 (nodeCount T) ∷ atomCount T ∷ words32 (atomCount T) ∷ words32 (atomCount T) ∷ words32 (rootCount T) ∷ words32 (nodeCount T) ∷ []) (drop 6 ws))) (first ws (omega arith))
+      ap (λ h. h ++ flat (cut (1 ∷ nodeCount T ∷ words32 (nodeCount T) ∷ atomCount T ∷ words32 (atomCount T) ∷ words32 (atomCount T) ∷ words32 (rootCount T) ∷ words32 (nodeCount T) ∷ []) (drop 7 ws))) (first ws (omega arith))
       ∙ flat-cut (lengths T) ws
 
-  pub length-unused : length (section T ws 1) ≡ 2
+  pub length-unused : length (section T ws 1) ≡ 1
   unfolding cut
-  length-unused = length-take-le 2 (drop 6 ws) (simp length-drop (omega arith))
+  length-unused = length-take-le 1 (drop 7 ws) (simp length-drop (omega arith))
 
   pub fits-of : Fits T (ofWords T ws)
   unfolding ofWords cut
@@ -182,7 +183,7 @@ all-zeros (n ∷ ns) ws = ap (λ l. replicate n 0 ++ l) (all-zeros ns ws) ∙ ze
 abbrev pub behind : Tables → List ℕ → List ℕ
 behind T past = replicate (listed T - used T) 0 ++ past
 
-pub zero-image : (T : Tables) (past : List ℕ) → image (zeroed T) (replicate 2 0) (behind T past) ≡ replicate (listed T) 0 ++ past
+pub zero-image : (T : Tables) (past : List ℕ) → image (zeroed T) (replicate 1 0) (behind T past) ≡ replicate (listed T) 0 ++ past
 unfolding image flat zeroed
 zero-image T past =
     ap (zerosFor (lengths T)) (append-nil (behind T past))

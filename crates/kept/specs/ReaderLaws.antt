@@ -20,15 +20,17 @@ use Rattle.kept.specs.PlaceLaws.{last-yes, last-no}
 use Rattle.kept.specs.Tabulate.{updated, updated-here, updated-there, updated-is, switched, switched-below, switched-from, switched-other}
 use Rattle.kept.specs.SetOfLaws.{ltb-suc}
 use Rattle.kept.specs.CountedSet.{andThen, moved}
+use Rattle.kept.specs.Worklist.{Worklist, Lists}
+use Rattle.kept.specs.WorklistLaws.{lists-agree, node-entered}
 use Rattle.kept.specs.CountedSetLaws.{count-more}
 use Rattle.kept.specs.Tables.{Tables, nodeCount, rootCount, rootAt, headAt, bodyAt, operandsAt}
 use Rattle.kept.specs.Evaluation.{Evaluation, held, bodyTrue, supports, support, falseRoot}
 use Rattle.kept.specs.Step.{readerUpdated, readersUpdated}
 use Rattle.kept.specs.PlainWalk.{among}
 use Rattle.kept.specs.Consistent.{Consistent, readersIn, operands-lower}
-use Rattle.kept.specs.HeldLaws.{held-agree, worklist-agree, support-agree, roots-agree, node-told, root-told, producer-told, told-append}
+use Rattle.kept.specs.HeldLaws.{held-agree, support-agree, roots-agree, node-told, root-told, producer-told, told-append}
 
-pub occurs-lower : (k m : ℕ) (xs : List ℕ) → Each (λ o. o < m) xs → 0 < occurrences k xs → k < m
+occurs-lower : (k m : ℕ) (xs : List ℕ) → Each (λ o. o < m) xs → 0 < occurrences k xs → k < m
 unfolding occurrences
 occurs-lower k m [] h l = absurd (omega arith)
 occurs-lower k m (x ∷ xs) h l = go (eqb x k) refl (occurs-lower k m xs (h .1)) l
@@ -49,13 +51,22 @@ module _ (T : Tables) (good : Consistent T) where
   -- ---- the nodes that read k
 
   module _ (k : ℕ) (t : Bool) (v : ℕ → Bool) (s : ℕ → ℕ) (c f : ℕ → Bool) where
-    repeated-told : (w : ℕ → Bool) (m n : ℕ) → m < nodeCount T → (0 < n → k < m)
-        → readersUpdated T k t (held T v w s c f) (replicate n (nodeReader m)) ≡ some (held T v (λ j. w j || eqb j m && not (eqb n 0)) s c f)
+    -- once the readers xs are told, the worklist lists the nodes of p
+    abbrev Told : Worklist → List ℕ → (ℕ → Bool) → Type 0
+    Told L xs p = (L′ : Worklist) × (readersUpdated T k t (held T v L s c f) xs ≡ some (held T v L′ s c f)) × Lists (nodeCount T) p L′
+
+    repeated-told : (w : ℕ → Bool) (L : Worklist) (m n : ℕ) → Lists (nodeCount T) w L → m < nodeCount T → (0 < n → k < m)
+        → Told L (replicate n (nodeReader m)) (λ j. w j || eqb j m && not (eqb n 0))
     unfolding readersUpdated
-    repeated-told w m zero l h = ap some (worklist-agree T v w (λ j. w j || eqb j m && false) s c f (λ j i. sym (rw (and-false (eqb j m)) (or-false (w j)))))
-    repeated-told w m (suc n) l h =
-        rw (packed-read 0 m (within (nodeCount T) m (good .limited .nodes) l), node-told T v w s c f k m t (h (omega arith)) l, repeated-told (updated w m true) m n l (λ i. h (omega arith)))
-        (ap some (worklist-agree T v (λ j. updated w m true j || eqb j m && not (eqb n 0)) (λ j. w j || eqb j m && not (eqb (suc n) 0)) s c f (λ j i. here j)))
+    repeated-told w L m zero x l h =
+        (L, refl, lists-agree (nodeCount T) w (λ j. w j || eqb j m && false) L (λ j i. sym (rw (and-false (eqb j m)) (or-false (w j)))) x)
+    repeated-told w L m (suc n) x l h =
+        let a = node-entered w (nodeCount T) m L x l in
+        let b = repeated-told (updated w m true) (a .0) m n (a .2) l (λ i. h (omega arith)) in (
+          b .0,
+          rw (packed-read 0 m (within (nodeCount T) m (good .limited .nodes) l), node-told T v L s c f k m t (a .0) (h (omega arith)) l (a .1)) (b .1),
+          lists-agree (nodeCount T) (λ j. updated w m true j || eqb j m && not (eqb n 0)) (λ j. w j || eqb j m && not (eqb (suc n) 0)) (b .0) (λ j i. here j) (b .2),
+        )
       where
         here : (j : ℕ) → updated w m true j || eqb j m && not (eqb n 0) ≡ w j || eqb j m && not (eqb (suc n) 0)
         here j = ⊎-elim
@@ -63,15 +74,21 @@ module _ (T : Tables) (good : Consistent T) where
             (λ e. rw (ne-eqb j m e, updated-there w m true j e))
             (equal-or j m)
 
-    nodes-told : (w : ℕ → Bool) (n : ℕ) → n ≤ nodeCount T
-        → readersUpdated T k t (held T v w s c f) (joined (readingNode (T .nodes) (T .operands) k) 0 n) ≡ some (held T v (λ j. w j || ltb j n && among k (operandsAt T j)) s c f)
+    nodes-told : (w : ℕ → Bool) (L : Worklist) (n : ℕ) → Lists (nodeCount T) w L → n ≤ nodeCount T
+        → Told L (joined (readingNode (T .nodes) (T .operands) k) 0 n) (λ j. w j || ltb j n && among k (operandsAt T j))
     unfolding joined readersUpdated readingNode operandsAt among
-    nodes-told w zero l = ap some (worklist-agree T v w (λ j. w j || ltb j 0 && among k (operandsAt T j)) s c f (λ j i. sym (rw (le-ltb j 0 (omega arith)) (or-false (w j)))))
-    nodes-told w (suc n) l =
-        ap (readersUpdated T k t (held T v w s c f)) (joined-more (readingNode (T .nodes) (T .operands) k) n)
-        ∙ told-append T k t (held T v w s c f) (joined (readingNode (T .nodes) (T .operands) k) 0 n) (readingNode (T .nodes) (T .operands) k n)
-        ∙ ap (λ o. andThen o (λ d. readersUpdated T k t d (readingNode (T .nodes) (T .operands) k n))) (nodes-told w n (omega arith))
-        ∙ next
+    nodes-told w L zero x l =
+        (L, refl, lists-agree (nodeCount T) w (λ j. w j || ltb j 0 && among k (operandsAt T j)) L (λ j i. sym (rw (le-ltb j 0 (omega arith)) (or-false (w j)))) x)
+    nodes-told w L (suc n) x l =
+        let a = nodes-told w L n x (omega arith) in
+        let b = repeated-told old (a .0) n (occurrences k (operandsAt T n)) (a .2) (omega arith) (occurs-lower k n (operandsAt T n) (operands-lower T n (good .node n (omega arith)))) in (
+          b .0,
+          ap (readersUpdated T k t (held T v L s c f)) (joined-more (readingNode (T .nodes) (T .operands) k) n)
+              ∙ told-append T k t (held T v L s c f) (joined (readingNode (T .nodes) (T .operands) k) 0 n) (readingNode (T .nodes) (T .operands) k n)
+              ∙ ap (λ o. andThen o (λ d. readersUpdated T k t d (readingNode (T .nodes) (T .operands) k n))) (a .1)
+              ∙ b .1,
+          lists-agree (nodeCount T) (λ j. old j || eqb j n && among k (operandsAt T n)) (λ j. w j || ltb j (suc n) && among k (operandsAt T j)) (b .0) (λ j i. here j) (b .2),
+        )
       where
         old : ℕ → Bool
         old j = w j || ltb j n && among k (operandsAt T j)
@@ -81,11 +98,6 @@ module _ (T : Tables) (good : Consistent T) where
             (λ e. rw (e, le-ltb n n (omega arith), eq-eqb n n refl, lt-ltb n (suc n) (omega arith)) (ap (λ b. b || among k (operandsAt T n)) (or-false (w n))))
             (λ e. rw (ne-eqb j n e, ltb-suc n j (λ z. e (sym z))) (or-false (w j || ltb j (suc n) && among k (operandsAt T j))))
             (equal-or j n)
-
-        next : readersUpdated T k t (held T v old s c f) (readingNode (T .nodes) (T .operands) k n) ≡ some (held T v (λ j. w j || ltb j (suc n) && among k (operandsAt T j)) s c f)
-        next =
-            repeated-told old n (occurrences k (operandsAt T n)) (omega arith) (occurs-lower k n (operandsAt T n) (operands-lower T n (good .node n (omega arith))))
-            ∙ ap some (worklist-agree T v (λ j. old j || eqb j n && among k (operandsAt T n)) (λ j. w j || ltb j (suc n) && among k (operandsAt T j)) s c f (λ j i. here j))
 
   -- ---- the producers with body k: those below p count by the new truth
 
@@ -165,7 +177,7 @@ module _ (T : Tables) (good : Consistent T) where
     abbrev body-is : ℕ → Bool
     body-is i = eqb (bodyAt T i) (k + 1)
 
-    producers-told : (x w c f : ℕ → Bool) (p : ℕ) → p ≤ T .made
+    producers-told : (x : ℕ → Bool) (w : Worklist) (c f : ℕ → Bool) (p : ℕ) → p ≤ T .made
         → readersUpdated T k t (held T x w (sum 0) c f) (map producerReader (places body-is 0 p)) ≡ some (held T x w (sum p) c f)
     unfolding readersUpdated places
     producers-told x w c f zero l = refl
@@ -203,7 +215,7 @@ module _ (T : Tables) (good : Consistent T) where
     abbrev rootsUpTo : ℕ → ℕ → Bool
     rootsUpTo r = switched r (falseRoot T v) (falseRoot T u)
 
-    roots-told : (x w : ℕ → Bool) (s : ℕ → ℕ) (c : ℕ → Bool) (r : ℕ) → r ≤ rootCount T
+    roots-told : (x : ℕ → Bool) (w : Worklist) (s : ℕ → ℕ) (c : ℕ → Bool) (r : ℕ) → r ≤ rootCount T
         → readersUpdated T k t (held T x w s c (rootsUpTo 0)) (map rootReader (places root-is 0 r)) ≡ some (held T x w s c (rootsUpTo r))
     unfolding readersUpdated places falseRoot
     roots-told x w s c zero l = refl
@@ -240,18 +252,24 @@ module _ (T : Tables) (good : Consistent T) where
             ∙ ap some (roots-agree T x w s c (rootsUpTo r) (rootsUpTo (suc r)) (λ j i. ⊎-elim (λ z. rw z (same (eqb-false (rootAt T r) k e))) (others j) (equal-or j r)))
 
     -- node k has become t: its readers bring the summary along, and the nodes that read it onto the worklist
-    pub readers-told : (w c : ℕ → Bool)
-        → readersUpdated T k t (held T (updated v k t) w (support T v) c (falseRoot T v)) (readersIn T k)
-        ≡ some (held T (updated v k t) (λ j. w j || ltb j (nodeCount T) && among k (operandsAt T j)) (support T (updated v k t)) c (falseRoot T (updated v k t)))
+    pub readers-told : (w : ℕ → Bool) (L : Worklist) (c : ℕ → Bool) → Lists (nodeCount T) w L
+        → (L′ : Worklist)
+        × (readersUpdated T k t (held T (updated v k t) L (support T v) c (falseRoot T v)) (readersIn T k)
+        ≡ some (held T (updated v k t) L′ (support T (updated v k t)) c (falseRoot T (updated v k t))))
+        × Lists (nodeCount T) (λ j. w j || ltb j (nodeCount T) && among k (operandsAt T j)) L′
     unfolding readersOf
-    readers-told w c =
-        ap (λ e. readersUpdated T k t e (nodeList ++ (producerList ++ rootList))) start
-        ∙ told-append T k t (held T u w (sum 0) c (rootsUpTo 0)) nodeList (producerList ++ rootList)
-        ∙ ap (λ o. andThen o (λ d. readersUpdated T k t d (producerList ++ rootList))) (nodes-told k t u (sum 0) c (rootsUpTo 0) w (nodeCount T) (omega arith))
-        ∙ told-append T k t (held T u w′ (sum 0) c (rootsUpTo 0)) producerList rootList
-        ∙ ap (λ o. andThen o (λ d. readersUpdated T k t d rootList)) (producers-told u w′ c (rootsUpTo 0) (T .made) (omega arith))
-        ∙ roots-told u w′ (sum (T .made)) c (rootCount T) (omega arith)
-        ∙ ap some finish
+    readers-told w L c x =
+        let a = nodes-told k t u (sum 0) c (rootsUpTo 0) w L (nodeCount T) x (omega arith) in (
+          a .0,
+          ap (λ e. readersUpdated T k t e (nodeList ++ (producerList ++ rootList))) start
+              ∙ told-append T k t (held T u L (sum 0) c (rootsUpTo 0)) nodeList (producerList ++ rootList)
+              ∙ ap (λ o. andThen o (λ d. readersUpdated T k t d (producerList ++ rootList))) (a .1)
+              ∙ told-append T k t (held T u (a .0) (sum 0) c (rootsUpTo 0)) producerList rootList
+              ∙ ap (λ o. andThen o (λ d. readersUpdated T k t d rootList)) (producers-told u (a .0) c (rootsUpTo 0) (T .made) (omega arith))
+              ∙ roots-told u (a .0) (sum (T .made)) c (rootCount T) (omega arith)
+              ∙ ap some (finish (a .0)),
+          a .2,
+        )
       where
         nodeList : List ℕ
         nodeList = joined (readingNode (T .nodes) (T .operands) k) 0 (nodeCount T)
@@ -262,15 +280,12 @@ module _ (T : Tables) (good : Consistent T) where
         rootList : List ℕ
         rootList = map rootReader (places root-is 0 (rootCount T))
 
-        w′ : ℕ → Bool
-        w′ j = w j || ltb j (nodeCount T) && among k (operandsAt T j)
-
-        start : held T u w (support T v) c (falseRoot T v) ≡ held T u w (sum 0) c (rootsUpTo 0)
+        start : held T u L (support T v) c (falseRoot T v) ≡ held T u L (sum 0) c (rootsUpTo 0)
         start =
-            held-agree T u u w w (support T v) (sum 0) c c (falseRoot T v) (rootsUpTo 0) (λ j l. refl) (λ j l. refl) (λ a l. support-none v u a) (λ a l. refl)
+            held-agree T u u L (support T v) (sum 0) c c (falseRoot T v) (rootsUpTo 0) (λ j l. refl) (λ a l. support-none v u a) (λ a l. refl)
             (λ r l. sym (switched-from 0 (falseRoot T v) (falseRoot T u) r (omega arith)))
 
-        finish : held T u w′ (sum (T .made)) c (rootsUpTo (rootCount T)) ≡ held T u w′ (support T u) c (falseRoot T u)
-        finish =
-            held-agree T u u w′ w′ (sum (T .made)) (support T u) c c (rootsUpTo (rootCount T)) (falseRoot T u) (λ j l. refl) (λ j l. refl) (λ a l. support-all v u a) (λ a l. refl)
+        finish : (L′ : Worklist) → held T u L′ (sum (T .made)) c (rootsUpTo (rootCount T)) ≡ held T u L′ (support T u) c (falseRoot T u)
+        finish L′ =
+            held-agree T u u L′ (sum (T .made)) (support T u) c c (rootsUpTo (rootCount T)) (falseRoot T u) (λ j l. refl) (λ a l. support-all v u a) (λ a l. refl)
             (λ r l. switched-below (rootCount T) (falseRoot T v) (falseRoot T u) r l)

@@ -27,6 +27,8 @@ use Rattle.kept.specs.SetOf.{setOf}
 use Rattle.kept.specs.SetOfLaws.{ltb-suc, member-above, length-setOf}
 use Rattle.kept.specs.CountedSet.{andThen}
 use Rattle.kept.specs.CountedSetLaws.{unlike-false}
+use Rattle.kept.specs.Worklist.{Worklist, worklistOf, Lists}
+use Rattle.kept.specs.WorklistLaws.{lists-agree, lists-of, node-entered}
 use Rattle.kept.specs.Tables.{Tables, atomCount, nodeCount, atomNodesAt}
 use Rattle.kept.specs.Evaluation.{Evaluation, present, held, truth, support, falseRoot, summary, fresh}
 use Rattle.kept.specs.Step.{entered}
@@ -34,8 +36,8 @@ use Rattle.kept.specs.Start.{allEntered, atomTurned, atomUpdated, walkSt
 use Rattle.kept.specs.Dirty.{touchedNode, touched, dirty}
 use Rattle.kept.specs.Walk.{ended, broken, walkFrom, keptWalk}
 use Rattle.kept.specs.Consistent.{Consistent, atomNodesIn, atom-lower}
-use Rattle.kept.specs.HeldLaws.{held-agree, worklist-agree, present-held, candidate-held, entered-held}
-use Rattle.kept.specs.WalkLaws.{midway, midway-start, walk-midway}
+use Rattle.kept.specs.HeldLaws.{held-agree, present-held, candidate-held, entered-held}
+use Rattle.kept.specs.WalkLaws.{midway-start, waits-start, walk-midway}
 
 pub entered-append : (T : Tables) (e : Evaluation) (xs ys : List ℕ) → allEntered T e (xs ++ ys) ≡ andThen (allEntered T e xs) (λ d. allEntered T d ys)
 unfolding allEntered
@@ -56,9 +58,15 @@ module _ (T : Tables) where
     with-nodes : ℕ → ℕ → Bool
     with-nodes n j = w j || ltb j n && is j
 
-    one-entered : (n : ℕ) → n < nodeCount T → allEntered T (held T v (with-nodes n) s c f) (n ∷ []) ≡ some (held T v (updated (with-nodes n) n true) s c f)
+    -- once the nodes ks have entered, the worklist lists the nodes of p
+    abbrev Entered : Worklist → List ℕ → (ℕ → Bool) → Type 0
+    Entered L ks p = (L′ : Worklist) × (allEntered T (held T v L s c f) ks ≡ some (held T v L′ s c f)) × Lists (nodeCount T) p L′
+
+    one-entered : (L : Worklist) (n : ℕ) → Lists (nodeCount T) (with-nodes n) L → n < nodeCount T → Entered L (n ∷ []) (updated (with-nodes n) n true)
     unfolding allEntered
-    one-entered n l = rw (lt-ltb n (nodeCount T) l, entered-held T v (with-nodes n) s c f n l)
+    one-entered L n x l =
+        let r = node-entered (with-nodes n) (nodeCount T) n L x l in
+        (r .0, rw (lt-ltb n (nodeCount T) l, entered-held T v L s c f n (r .0) (r .1)), r .2)
 
     others : (n j : ℕ) → (j ≡ n → ⊥) → with-nodes n j ≡ with-nodes (suc n) j
     unfolding with-nodes
@@ -76,32 +84,36 @@ module _ (T : Tables) where
     unfolding with-nodes
     nodes-none j = sym (rw (le-ltb j 0 (omega arith)) (or-false (w j)))
 
-    entered-nodes : (n : ℕ) → n ≤ nodeCount T → allEntered T (held T v w s c f) (places is 0 n) ≡ some (held T v (with-nodes n) s c f)
-    unfolding places allEntered
-    entered-nodes zero l = ap some (worklist-agree T v w (with-nodes 0) s c f (λ j i. nodes-none j))
-    entered-nodes (suc n) l = go (is n) refl (entered-nodes n (omega arith))
-      where
-        start : Evaluation
-        start = held T v w s c f
+    module _ (L : Worklist) (x : Lists (nodeCount T) w L) where
+      entered-nodes : (n : ℕ) → n ≤ nodeCount T → Entered L (places is 0 n) (with-nodes n)
+      unfolding places allEntered
+      entered-nodes zero l = (L, refl, lists-agree (nodeCount T) w (with-nodes 0) L (λ j i. nodes-none j) x)
+      entered-nodes (suc n) l = go (is n) refl (entered-nodes n (omega arith))
+        where
+          start : Evaluation
+          start = held T v L s c f
 
-        go : (b : Bool) → is n ≡ b → allEntered T start (places is 0 n) ≡ some (held T v (with-nodes n) s c f)
-            → allEntered T start (places is 0 (suc n)) ≡ some (held T v (with-nodes (suc n)) s c f)
-        go true e ih =
-            ap (allEntered T start) (last-yes is n e)
-            ∙ entered-append T start (places is 0 n) (n ∷ [])
-            ∙ ap (λ o. andThen o (λ d. allEntered T d (n ∷ []))) ih
-            ∙ one-entered n (omega arith)
-            ∙ ap some (worklist-agree T v (updated (with-nodes n) n true) (with-nodes (suc n)) s c f (λ j i. updated-is (with-nodes n) (with-nodes (suc n)) n true (mine n e) (others n) j))
-        go false e ih =
-            ap (allEntered T start) (last-no is n e)
-            ∙ ih
-            ∙ ap some (worklist-agree T v (with-nodes n) (with-nodes (suc n)) s c f (λ j i. ⊎-elim (λ z. rw z (not-mine n e)) (others n j) (equal-or j n)))
+          go : (b : Bool) → is n ≡ b → Entered L (places is 0 n) (with-nodes n) → Entered L (places is 0 (suc n)) (with-nodes (suc n))
+          go true e ih =
+              let r = one-entered (ih .0) n (ih .2) (omega arith) in (
+                r .0,
+                ap (allEntered T start) (last-yes is n e)
+                    ∙ entered-append T start (places is 0 n) (n ∷ [])
+                    ∙ ap (λ o. andThen o (λ d. allEntered T d (n ∷ []))) (ih .1)
+                    ∙ r .1,
+                lists-agree (nodeCount T) (updated (with-nodes n) n true) (with-nodes (suc n)) (r .0) (λ j i. updated-is (with-nodes n) (with-nodes (suc n)) n true (mine n e) (others n) j) (r .2),
+              )
+          go false e ih = (
+            ih .0,
+            ap (allEntered T start) (last-no is n e) ∙ ih .1,
+            lists-agree (nodeCount T) (with-nodes n) (with-nodes (suc n)) (ih .0) (λ j i. ⊎-elim (λ z. rw z (not-mine n e)) (others n j) (equal-or j n)) (ih .2),
+          )
 
-    pub atom-nodes-entered : allEntered T (held T v w s c f) (atomNodesIn T a) ≡ some (held T v (λ j. w j || isAtomOf a (nodeAt (T .nodes) j)) s c f)
-    unfolding atomNodesOf is with-nodes
-    atom-nodes-entered =
-        entered-nodes (nodeCount T) (omega arith)
-        ∙ ap some (worklist-agree T v (with-nodes (nodeCount T)) (λ j. w j || isAtomOf a (nodeAt (T .nodes) j)) s c f (λ j i. rw (lt-ltb j (nodeCount T) i)))
+      pub atom-nodes-entered : Entered L (atomNodesIn T a) (λ j. w j || isAtomOf a (nodeAt (T .nodes) j))
+      unfolding atomNodesOf is with-nodes
+      atom-nodes-entered =
+          let r = entered-nodes (nodeCount T) (omega arith) in
+          (r .0, r .1, lists-agree (nodeCount T) (with-nodes (nodeCount T)) (λ j. w j || isAtomOf a (nodeAt (T .nodes) j)) (r .0) (λ j i. rw (lt-ltb j (nodeCount T) i)) (r .2))
 
   module _ (good : Consistent T) (I J : Interpretation) where
     -- an Atom node of a changed atom below a
@@ -146,60 +158,89 @@ module _ (T : Tables) where
     waits : ℕ → ℕ → Bool
     waits a j = changedNode a (nodeAt (T .nodes) j)
 
-    -- the evaluation when the atoms below a are as J has them
-    turning : ℕ → Evaluation
-    turning a = held T (truth T I) (waits a) (support T (truth T I)) (switched a I J) (falseRoot T (truth T I))
+    -- the evaluation when the atoms below a are as J has them, by its worklist
+    turning : ℕ → Worklist → Evaluation
+    turning a L = held T (truth T I) L (support T (truth T I)) (switched a I J) (falseRoot T (truth T I))
 
-    turning-is : (a : ℕ) (w c : ℕ → Bool) → ((j : ℕ) → w j ≡ waits (suc a) j) → ((j : ℕ) → c j ≡ switched (suc a) I J j)
-        → held T (truth T I) w (support T (truth T I)) c (falseRoot T (truth T I)) ≡ turning (suc a)
+    -- those that wait then are on the worklist
+    abbrev Waits : ℕ → Worklist → Type 0
+    Waits a L = Lists (nodeCount T) (waits a) L
+
+    turning-is : (a : ℕ) (L : Worklist) (c : ℕ → Bool) → ((j : ℕ) → c j ≡ switched (suc a) I J j)
+        → held T (truth T I) L (support T (truth T I)) c (falseRoot T (truth T I)) ≡ turning (suc a) L
     unfolding turning
-    turning-is a w c hw hc =
-        held-agree T (truth T I) (truth T I) w (waits (suc a)) (support T (truth T I)) (support T (truth T I)) c (switched (suc a) I J) (falseRoot T (truth T I)) (falseRoot T (truth T I))
-        (λ j i. refl) (λ j i. hw j) (λ j i. refl) (λ j i. hc j) (λ j i. refl)
+    turning-is a L c hc =
+        held-agree T (truth T I) (truth T I) L (support T (truth T I)) (support T (truth T I)) c (switched (suc a) I J) (falseRoot T (truth T I)) (falseRoot T (truth T I))
+        (λ j i. refl) (λ j i. refl) (λ j i. hc j) (λ j i. refl)
 
-    present-turning : (a : ℕ) → a < atomCount T → present (turning a) a ≡ I a
+    present-turning : (a : ℕ) (L : Worklist) → a < atomCount T → present (turning a L) a ≡ I a
     unfolding turning
-    present-turning a l =
-        present-held T (truth T I) (waits a) (support T (truth T I)) (switched a I J) (falseRoot T (truth T I)) a l ∙ switched-from a I J a (omega arith)
+    present-turning a L l =
+        present-held T (truth T I) L (support T (truth T I)) (switched a I J) (falseRoot T (truth T I)) a l ∙ switched-from a I J a (omega arith)
 
-    turned : (a : ℕ) → a < atomCount T → unlike (I a) (J a) ≡ true → atomTurned T J a (turning a) ≡ some (turning (suc a))
-    unfolding atomTurned turning waits
-    turned a l e =
-        candidate-held T (truth T I) (waits a) (support T (truth T I)) (switched a I J) (falseRoot T (truth T I)) (λ d. andThen (atomNodesAt T a) (allEntered T d)) a (J a) l
-        ∙ rw (good .atom-nodes a l, atom-nodes-entered (truth T I) (support T (truth T I)) (updated (switched a I J) a (J a)) (falseRoot T (truth T I)) (waits a) a)
-        (ap some (turning-is a (λ j. waits a j || isAtomOf a (nodeAt (T .nodes) j)) (updated (switched a I J) a (J a)) (λ j. changed-next a true e (nodeAt (T .nodes) j)) (switched-next a I J)))
+    module _ (a : ℕ) (L : Worklist) (x : Waits a L) where
+      turned : a < atomCount T → unlike (I a) (J a) ≡ true → (L′ : Worklist) × (atomTurned T J a (turning a L) ≡ some (turning (suc a) L′)) × Waits (suc a) L′
+      unfolding atomTurned turning waits
+      turned l e =
+          let c = updated (switched a I J) a (J a) in
+          let r = atom-nodes-entered (truth T I) (support T (truth T I)) c (falseRoot T (truth T I)) (waits a) a L x in (
+            r .0,
+            candidate-held T (truth T I) L (support T (truth T I)) (switched a I J) (falseRoot T (truth T I)) (λ d. andThen (atomNodesAt T a) (allEntered T d)) a (J a) l
+                ∙ rw (good .atom-nodes a l, r .1) (ap some (turning-is a (r .0) c (switched-next a I J))),
+            lists-agree (nodeCount T) (λ j. waits a j || isAtomOf a (nodeAt (T .nodes) j)) (waits (suc a)) (r .0) (λ j i. changed-next a true e (nodeAt (T .nodes) j)) (r .2),
+          )
 
-    unturned : (a : ℕ) → unlike (I a) (J a) ≡ false → turning a ≡ turning (suc a)
-    unfolding turning waits
-    unturned a e =
-        turning-is a (waits a) (switched a I J) (λ j. sym (or-false (waits a j)) ∙ changed-next a false e (nodeAt (T .nodes) j))
-        (λ j. sym (updated-same (switched a I J) a (J a) (switched-from a I J a (omega arith) ∙ unlike-false (I a) (J a) e) j) ∙ switched-next a I J j)
+      unturned : unlike (I a) (J a) ≡ false → (turning a L ≡ turning (suc a) L) × Waits (suc a) L
+      unfolding turning waits
+      unturned e = (
+        turning-is a L (switched a I J)
+            (λ j. sym (updated-same (switched a I J) a (J a) (switched-from a I J a (omega arith) ∙ unlike-false (I a) (J a) e) j) ∙ switched-next a I J j),
+        lists-agree (nodeCount T) (waits a) (waits (suc a)) L (λ j i. sym (or-false (waits a j)) ∙ changed-next a false e (nodeAt (T .nodes) j)) x,
+      )
 
-    updated-turning : (a : ℕ) → a < atomCount T → atomUpdated T J a (turning a) ≡ some (turning (suc a))
-    unfolding atomUpdated
-    updated-turning a l = rw (present-turning a l) (go (unlike (I a) (J a)) refl)
-      where
-        go : (b : Bool) → unlike (I a) (J a) ≡ b → cond b (atomTurned T J a (turning a)) (some (turning a)) ≡ some (turning (suc a))
-        go true e = turned a l e
-        go false e = ap some (unturned a e)
+      updated-turning : a < atomCount T → (L′ : Worklist) × (atomUpdated T J a (turning a L) ≡ some (turning (suc a) L′)) × Waits (suc a) L′
+      unfolding atomUpdated
+      updated-turning l = rw (present-turning a L l) (go (unlike (I a) (J a)) refl)
+        where
+          go : (b : Bool) → unlike (I a) (J a) ≡ b
+              → (L′ : Worklist) × (cond b (atomTurned T J a (turning a L)) (some (turning a L)) ≡ some (turning (suc a) L′)) × Waits (suc a) L′
+          go true e = turned l e
+          go false e = let r = unturned e in (L, ap some (r .0), r .1)
 
-    start-turning : (a : ℕ) → a ≤ atomCount T → walkStart T J a (turning 0) ≡ some (turning a)
+    start-turning : (a : ℕ) (L : Worklist) → Waits 0 L → a ≤ atomCount T → (L′ : Worklist) × (walkStart T J a (turning 0 L) ≡ some (turning a L′)) × Waits a L′
     unfolding walkStart
-    start-turning zero l = refl
-    start-turning (suc a) l = rw (start-turning a (omega arith)) (updated-turning a (omega arith))
+    start-turning zero L x l = (L, refl, x)
+    start-turning (suc a) L x l =
+        let r = start-turning a L x (omega arith) in
+        let q = updated-turning a (r .0) (r .2) (omega arith) in
+        (q .0, rw (r .1) (q .1), q .2)
 
-    turning-fresh : fresh T I ≡ turning 0
-    unfolding fresh summary turning waits
+    turning-fresh : fresh T I ≡ turning 0 (worklistOf (λ k. false) (nodeCount T))
+    unfolding fresh summary turning
     turning-fresh =
-        held-agree T (truth T I) (truth T I) (λ k. false) (waits 0) (support T (truth T I)) (support T (truth T I)) I (switched 0 I J) (falseRoot T (truth T I)) (falseRoot T (truth T I))
-        (λ j i. refl) (λ j i. changed-none (nodeAt (T .nodes) j)) (λ j i. refl) (λ j i. sym (switched-from 0 I J j (omega arith))) (λ j i. refl)
+        held-agree T (truth T I) (truth T I) (worklistOf (λ k. false) (nodeCount T)) (support T (truth T I)) (support T (truth T I)) I (switched 0 I J) (falseRoot T (truth T I)) (falseRoot T (truth T I))
+        (λ j i. refl) (λ j i. refl) (λ j i. sym (switched-from 0 I J j (omega arith))) (λ j i. refl)
 
-    turning-midway : turning (atomCount T) ≡ midway T good I J 0
-    unfolding turning summary waits touched
-    turning-midway =
-        held-agree T (truth T I) (truth T I) (waits (atomCount T)) (touched T I J) (support T (truth T I)) (support T (truth T I)) (switched (atomCount T) I J) J (falseRoot T (truth T I)) (falseRoot T (truth T I))
-        (λ j i. refl) (λ j i. changed-all (nodeAt (T .nodes) j) (λ a e. atom-lower T j a (good .node j i) e)) (λ j i. refl) (λ j i. switched-below (atomCount T) I J j i) (λ j i. refl)
-        ∙ midway-start T good I J
+    fresh-waits : Waits 0 (worklistOf (λ k. false) (nodeCount T))
+    unfolding waits
+    fresh-waits =
+        lists-agree (nodeCount T) (λ k. false) (waits 0) (worklistOf (λ k. false) (nodeCount T)) (λ j i. changed-none (nodeAt (T .nodes) j)) (lists-of (nodeCount T) (λ k. false))
+
+    turning-all : (L : Worklist) → turning (atomCount T) L ≡ summary T (truth T I) L J
+    unfolding turning summary
+    turning-all L =
+        held-agree T (truth T I) (truth T I) L (support T (truth T I)) (support T (truth T I)) (switched (atomCount T) I J) J (falseRoot T (truth T I)) (falseRoot T (truth T I))
+        (λ j i. refl) (λ j i. refl) (λ j i. switched-below (atomCount T) I J j i) (λ j i. refl)
+
+    all-waits : (L : Worklist) → Waits (atomCount T) L → Lists (nodeCount T) (touched T I J) L
+    unfolding waits touched
+    all-waits L x = lists-agree (nodeCount T) (waits (atomCount T)) (touched T I J) L (λ j i. changed-all (nodeAt (T .nodes) j) (λ a e. atom-lower T j a (good .node j i) e)) x
+
+    -- the walk begins with the new candidate and its missing atoms, and the atom nodes of the changed atoms on the worklist
+    pub start-fresh : (L : Worklist) × Lists (nodeCount T) (touched T I J) L × (walkStart T J (atomCount T) (fresh T I) ≡ some (summary T (truth T I) L J))
+    start-fresh =
+        let r = start-turning (atomCount T) (worklistOf (λ k. false) (nodeCount T)) fresh-waits (omega arith) in
+        (r .0, all-waits (r .0) (r .2), ap (walkStart T J (atomCount T)) turning-fresh ∙ r .1 ∙ ap some (turning-all (r .0)))
 
     -- a fresh evaluation's candidate has atoms alone
     no-stray : ltb (next 32 (fresh T I .candidate) (atomCount T)) (32 * length (fresh T I .candidate)) ≡ false
@@ -224,13 +265,7 @@ module _ (T : Tables) where
     pub kept-fresh : keptWalk T J (fresh T I) ≡ ended (places (dirty T I J) 0 (nodeCount T)) (fresh T J)
     unfolding keptWalk
     kept-fresh =
+        let r = start-fresh in
         ap (λ b. cond b (broken 0) (walkFrom T (walkStart T J (atomCount T) (fresh T I)))) no-stray
-        ∙ ap (λ e. walkFrom T (walkStart T J (atomCount T) e)) turning-fresh
-        ∙ ap (walkFrom T) (start-turning (atomCount T) (omega arith) ∙ ap some turning-midway)
-        ∙ walk-midway T good I J (nodeCount T) 0 (suc (nodeCount T)) (zero-add (nodeCount T)) (omega arith)
-
-    -- the walk begins with the new candidate and its missing atoms, and the atom nodes of the changed atoms on the worklist
-    pub start-fresh : walkStart T J (atomCount T) (fresh T I) ≡ some (summary T (truth T I) (touched T I J) J)
-    start-fresh =
-        ap (walkStart T J (atomCount T)) turning-fresh ∙ start-turning (atomCount T) (omega arith)
-        ∙ ap some (turning-midway ∙ sym (midway-start T good I J))
+        ∙ ap (walkFrom T) (r .2 ∙ ap some (midway-start T good I J (r .0)))
+        ∙ walk-midway T good I J (nodeCount T) 0 (suc (nodeCount T)) (r .0) (waits-start T good I J (r .0) (r .1)) (zero-add (nodeCount T)) (omega arith)

@@ -11,7 +11,7 @@ use Rattle.readers.specs.declared.Reading.{Reading}
 use Rattle.readers.specs.declared.Reading.the-variants.{Node, Producer, Root, Unknown}
 use Rattle.readers.specs.Reader.{readingOf}
 use Rattle.kept.specs.CountedSet.{CountedSet, andThen, moved, withMember}
-use Rattle.kept.specs.Worklist.{Worklist, withFirst, withNode, withoutFirst}
+use Rattle.kept.specs.Worklist.{Worklist, withNode, withoutFirst}
 use Rattle.kept.specs.Tables.{Tables, atomCount, nodeCount, rootCount, headAt, readersAt}
 use Rattle.kept.specs.Seen.{seenBy}
 use Rattle.kept.specs.Evaluation.{Evaluation, truthAt, present, truthWord}
@@ -60,7 +60,7 @@ abbrev pub tookAt : ℕ → Option Evaluation → Stepped
 tookAt k none = fault k
 tookAt k (some e) = took k e
 
--- node k becomes t, and its readers are told if that is a change
+-- node k, off the worklist, becomes t
 unfoldable pub settled : Tables → ℕ → Bool → Evaluation → Stepped
 settled T k t e =
     cond (unlike (truthAt e k) t)
@@ -71,25 +71,17 @@ settled T k t e =
 unfoldable pub seen : Tables → Evaluation → ℕ → Option Bool
 seen T e k = seenBy T (present e) (truthAt e) k
 
--- node k, told to its readers, leaves the worklist; none: there is no next one where the words say
-abbrev pub leftAt : ℕ → Evaluation → Option Worklist → Stepped
-leftAt k e none = fault 0
-leftAt k e (some w) = took k (withWorklist e w)
-
-abbrev pub leaving : ℕ → Stepped → Stepped
-leaving n idle = idle
-leaving n (fault place) = fault place
-leaving n (took k e) = leftAt k e (withoutFirst n (e .worklist))
-
--- with its truth: off the worklist at once if none waits behind it; else it leaves once its readers are told, as the next one may be among those that enter
-abbrev pub settledFrom : Tables → ℕ → Evaluation → Option Bool → Stepped
-settledFrom T k e none = fault k
-settledFrom T k e (some t) =
-    cond (eqb (e .worklist .others .size) 0) (settled T k t (withWorklist e (withFirst (e .worklist) (nodeCount T)))) (leaving (nodeCount T) (settled T k t e))
+-- with its truth, and the worklist without it
+abbrev pub settledFrom : Tables → ℕ → Evaluation → Option Bool → Option Worklist → Stepped
+settledFrom T k e none w = fault k
+settledFrom T k e (some t) none = fault 0
+settledFrom T k e (some t) (some w) = settled T k t (withWorklist e w)
 
 -- node k is the first of the worklist; the number of nodes is none, and what is above it no node
 unfoldable pub stepAt : Tables → Evaluation → ℕ → Stepped
-stepAt T e k = cond (ltb k (nodeCount T)) (settledFrom T k e (seen T e k)) (cond (eqb k (nodeCount T)) idle (fault 0))
+stepAt T e k =
+    cond (ltb k (nodeCount T)) (settledFrom T k e (seen T e k) (withoutFirst (nodeCount T) (e .worklist)))
+    (cond (eqb k (nodeCount T)) idle (fault 0))
 
 -- the lowest node of the worklist
 unfoldable pub step : Tables → Evaluation → Stepped

@@ -4,7 +4,7 @@ use Prim.Native.Nat.{ℕ, zero, suc, _<_, _≤_, _+_}
 use native.Mathlib.Omega.{arith}
 use native.Mathlib.Nat.{not-suc-le-zero}
 use native.Mathlib.Numerals.{add-one}
-use mathlib.Core.Path.{_≡_, refl, ap, sym, _∙_}
+use mathlib.Core.Path.{_≡_, refl, ap, sym, _∙_, subst}
 use mathlib.Core.Bool.{Bool, true, false, not, cond, _&&_, _||_, or-false, or-true, and-false, or-assoc}
 use mathlib.Core.List.{List, [], _∷_, map}
 use lib.Dec.{eqb, ltb, leb}
@@ -21,7 +21,8 @@ use Rattle.readers.specs.Readers.{occurrences}
 use Rattle.kept.specs.Tabulate.{updated, updated-here, updated-there, updated-same, switched, switched-below, switched-from, switched-next}
 use Rattle.kept.specs.SetOfLaws.{ltb-suc}
 use Rattle.kept.specs.CountedSetLaws.{unlike-false, unlike-same}
-use Rattle.kept.specs.WorklistLaws.{first-none}
+use Rattle.kept.specs.Worklist.{Worklist, worklistOf, Lists}
+use Rattle.kept.specs.WorklistLaws.{lists-agree, lists-of, lists-none, first-none}
 use Rattle.kept.specs.Tables.{Tables, atomCount, nodeCount, rootAt, headAt, bodyAt, operandsAt}
 use Rattle.kept.specs.Evaluation.{Evaluation, held, truth, bodyTrue, supports, support, falseRoot, summary, fresh}
 use Rattle.kept.specs.Step.{idle, took, stepAt, step}
@@ -78,7 +79,7 @@ none-each f g (x ∷ xs) e = (
 -- nothing waits in a fresh evaluation
 pub fresh-idle : (T : Tables) (J : Interpretation) → step T (fresh T J) ≡ idle
 unfolding step stepAt fresh summary held
-fresh-idle T J = rw (first-none (λ k. false) (nodeCount T) (λ j h. refl), le-ltb (nodeCount T) (nodeCount T) (omega arith), eq-eqb (nodeCount T) (nodeCount T) refl)
+fresh-idle T J = rw (first-none (λ k. false) (nodeCount T) (worklistOf (λ k. false) (nodeCount T)) (lists-of (nodeCount T) (λ k. false)) (λ j h. refl), le-ltb (nodeCount T) (nodeCount T) (omega arith), eq-eqb (nodeCount T) (nodeCount T) refl)
 
 any-zero : (d : ℕ → Bool) (xs : List ℕ) → anyTrue (map (λ o. ltb o 0 && d o) xs) ≡ false
 unfolding anyTrue
@@ -100,11 +101,11 @@ module _ (T : Tables) (good : Consistent T) where
   unfolding support supports
   support-agrees v v′ h a = count-agree _ _ 0 (T .made) (λ p i l. ap (λ b. eqb (headAt T p) a && b) (body-agree v v′ h (bodyAt T p) (good .body p (omega arith))))
 
-  pub summary-agree : (v v′ w w′ c c′ : ℕ → Bool) → ((k : ℕ) → k < nodeCount T → v k ≡ v′ k) → ((k : ℕ) → k < nodeCount T → w k ≡ w′ k)
-      → ((a : ℕ) → a < atomCount T → c a ≡ c′ a) → summary T v w c ≡ summary T v′ w′ c′
+  pub summary-agree : (v v′ : ℕ → Bool) (w : Worklist) (c c′ : ℕ → Bool) → ((k : ℕ) → k < nodeCount T → v k ≡ v′ k)
+      → ((a : ℕ) → a < atomCount T → c a ≡ c′ a) → summary T v w c ≡ summary T v′ w c′
   unfolding summary falseRoot
-  summary-agree v v′ w w′ c c′ hv hw hc =
-      held-agree T v v′ w w′ (support T v) (support T v′) c c′ (falseRoot T v) (falseRoot T v′) hv hw (λ a l. support-agrees v v′ hv a) hc
+  summary-agree v v′ w c c′ hv hc =
+      held-agree T v v′ w (support T v) (support T v′) c c′ (falseRoot T v) (falseRoot T v′) hv (λ a l. support-agrees v v′ hv a) hc
       (λ r l. ap not (hv (rootAt T r) (good .root r l)))
 
   module _ (I J : Interpretation) where
@@ -116,9 +117,13 @@ module _ (T : Tables) (good : Consistent T) where
     mixed : ℕ → ℕ → Bool
     mixed k = switched k (truth T I) (truth T J)
 
-    -- the evaluation then
-    pub midway : ℕ → Evaluation
-    midway k = summary T (mixed k) (waiting k) J
+    -- the evaluation then, by its worklist
+    pub midway : ℕ → Worklist → Evaluation
+    midway k L = summary T (mixed k) L J
+
+    -- those that wait then are on the worklist
+    abbrev pub Waits : ℕ → Worklist → Type 0
+    Waits k L = Lists (nodeCount T) (waiting k) L
 
     -- a node that is not dirty keeps its truth
     clean : (k : ℕ) → k < nodeCount T → dirty T I J k ≡ false → truth T I k ≡ truth T J k
@@ -174,39 +179,51 @@ module _ (T : Tables) (good : Consistent T) where
         truth-lower T J (mixed k) (truth T J) k (good .node k l) (λ o i. switched-below k (truth T I) (truth T J) o i)
         ∙ sym (truth-step T J k l (good .node k l))
 
-    midway-step : (k : ℕ) → k < nodeCount T → dirty T I J k ≡ true → step T (midway k) ≡ took k (midway (suc k))
+    midway-step : (k : ℕ) (L : Worklist) → Waits k L → k < nodeCount T → dirty T I J k ≡ true
+        → (L′ : Worklist) × Waits (suc k) L′ × (step T (midway k L) ≡ took k (midway (suc k) L′))
     unfolding midway waitingAfter flips
-    midway-step k l e =
-        step-summary T good (mixed k) (waiting k) J k l (waiting-here k l ∙ e) (waiting-below k)
-        ∙ ap (took k) (rw (mixed-truth k l)
-        (summary-agree (updated (mixed k) k (truth T J k)) (mixed (suc k)) (waitingAfter T (mixed k) (waiting k) k (truth T J k)) (waiting (suc k)) J J
-        (λ j i. mixed-next k j)
-        (λ j i. ap (λ x. updated (waiting k) k false j || unlike x (truth T J k) && among k (operandsAt T j)) (mixed-here k) ∙ waiting-next k j l i)
-        (λ a i. refl)))
+    midway-step k L x l e =
+        let r = step-summary T good (mixed k) (waiting k) J L x k l (waiting-here k l ∙ e) (waiting-below k) in
+        let t : truthBy T J (mixed k) k ≡ truth T J k = mixed-truth k l in (
+          r .0,
+          lists-agree (nodeCount T) (waitingAfter T (mixed k) (waiting k) k (truthBy T J (mixed k) k)) (waiting (suc k)) (r .0)
+              (λ j i. ap (λ b. waitingAfter T (mixed k) (waiting k) k b j) t
+              ∙ ap (λ b. updated (waiting k) k false j || unlike b (truth T J k) && among k (operandsAt T j)) (mixed-here k) ∙ waiting-next k j l i)
+              (r .1),
+          r .2 ∙ ap (took k) (summary-agree (updated (mixed k) k (truthBy T J (mixed k) k)) (mixed (suc k)) (r .0) J J
+              (λ j i. ap (λ b. updated (mixed k) k b j) t ∙ mixed-next k j)
+              (λ a i. refl)),
+        )
 
-    midway-skip : (k : ℕ) → k < nodeCount T → dirty T I J k ≡ false → midway k ≡ midway (suc k)
+    midway-skip : (k : ℕ) (L : Worklist) → Waits k L → k < nodeCount T → dirty T I J k ≡ false → Waits (suc k) L × (midway k L ≡ midway (suc k) L)
     unfolding midway flips
-    midway-skip k l e =
-        let same : truth T I k ≡ truth T J k = clean k l e in
-        summary-agree (mixed k) (mixed (suc k)) (waiting k) (waiting (suc k)) J J
-        (λ j i. sym (updated-same (mixed k) k (truth T J k) (mixed-here k ∙ same) j) ∙ mixed-next k j)
-        (λ j i. sym (updated-same (waiting k) k false (waiting-here k l ∙ e) j) ∙ sym (or-false (updated (waiting k) k false j))
-        ∙ ap (λ x. updated (waiting k) k false j || x && among k (operandsAt T j)) (sym (unlike-same (truth T I k) (truth T J k) same)) ∙ waiting-next k j l i)
-        (λ a i. refl)
+    midway-skip k L x l e =
+        let same : truth T I k ≡ truth T J k = clean k l e in (
+          lists-agree (nodeCount T) (waiting k) (waiting (suc k)) L
+              (λ j i. sym (updated-same (waiting k) k false (waiting-here k l ∙ e) j) ∙ sym (or-false (updated (waiting k) k false j))
+              ∙ ap (λ b. updated (waiting k) k false j || b && among k (operandsAt T j)) (sym (unlike-same (truth T I k) (truth T J k) same)) ∙ waiting-next k j l i)
+              x,
+          summary-agree (mixed k) (mixed (suc k)) L J J
+              (λ j i. sym (updated-same (mixed k) k (truth T J k) (mixed-here k ∙ same) j) ∙ mixed-next k j)
+              (λ a i. refl),
+        )
 
     -- at the start the atom nodes of the changed atoms wait
-    pub midway-start : summary T (truth T I) (touched T I J) J ≡ midway 0
-    unfolding midway mixed waiting
-    midway-start =
-        summary-agree (truth T I) (mixed 0) (touched T I J) (waiting 0) J J (λ j i. sym (switched-from 0 (truth T I) (truth T J) j (omega arith)))
-        (λ j i. rw (le-leb 0 j (omega arith), any-zero (flips T I J) (operandsAt T j)) (sym (or-false (touched T I J j))))
-        (λ a i. refl)
+    pub waits-start : (L : Worklist) → Lists (nodeCount T) (touched T I J) L → Waits 0 L
+    unfolding waiting
+    waits-start L x = lists-agree (nodeCount T) (touched T I J) (waiting 0) L
+        (λ j i. rw (le-leb 0 j (omega arith), any-zero (flips T I J) (operandsAt T j)) (sym (or-false (touched T I J j)))) x
 
-    midway-end : midway (nodeCount T) ≡ fresh T J
+    pub midway-start : (L : Worklist) → summary T (truth T I) L J ≡ midway 0 L
+    unfolding midway mixed
+    midway-start L = summary-agree (truth T I) (mixed 0) L J J (λ j i. sym (switched-from 0 (truth T I) (truth T J) j (omega arith))) (λ a i. refl)
+
+    midway-end : (L : Worklist) → Waits (nodeCount T) L → midway (nodeCount T) L ≡ fresh T J
     unfolding midway mixed fresh
-    midway-end =
-        summary-agree (mixed (nodeCount T)) (truth T J) (waiting (nodeCount T)) (λ k. false) J J
-        (λ j i. switched-below (nodeCount T) (truth T I) (truth T J) j i) (λ j i. waiting-below (nodeCount T) j i) (λ a i. refl)
+    midway-end L x =
+        rw (lists-none (nodeCount T) (waiting (nodeCount T)) L x (waiting-below (nodeCount T)))
+        (summary-agree (mixed (nodeCount T)) (truth T J) (worklistOf (λ k. false) (nodeCount T)) J J
+        (λ j i. switched-below (nodeCount T) (truth T I) (truth T J) j i) (λ a i. refl))
 
     walk-fresh : (n : ℕ) → walk T n (fresh T J) ≡ ended [] (fresh T J)
     unfolding walk
@@ -214,22 +231,24 @@ module _ (T : Tables) (good : Consistent T) where
     walk-fresh (suc n) = rw (fresh-idle T J)
 
     -- the steps from k on
-    pub walk-midway : (d k n : ℕ) → k + d ≡ nodeCount T → d ≤ n → walk T n (midway k) ≡ ended (places (dirty T I J) k d) (fresh T J)
+    pub walk-midway : (d k n : ℕ) (L : Worklist) → Waits k L → k + d ≡ nodeCount T → d ≤ n → walk T n (midway k L) ≡ ended (places (dirty T I J) k d) (fresh T J)
     unfolding places walk
-    walk-midway zero k n e l =
-        let x : k ≡ nodeCount T = omega arith in
-        rw (x, midway-end) (walk-fresh n)
-    walk-midway (suc d) k n e l = go (dirty T I J k) refl n l (λ n. walk-midway d (k + 1) n (omega arith))
+    walk-midway zero k n L x e l =
+        let p : k ≡ nodeCount T = omega arith in
+        ap (walk T n) (ap (λ i. midway i L) p ∙ midway-end L (subst (λ i. Waits i L) p x)) ∙ walk-fresh n
+    walk-midway (suc d) k n L x e l = go (dirty T I J k) refl n l (λ n M y. walk-midway d (k + 1) n M y (omega arith))
       where
-        next : midway (suc k) ≡ midway (k + 1)
-        next = ap midway (sym (add-one k))
+        next : suc k ≡ k + 1
+        next = sym (add-one k)
 
         go : (b : Bool) → dirty T I J k ≡ b → (n : ℕ) → suc d ≤ n
-            → ((n : ℕ) → d ≤ n → walk T n (midway (k + 1)) ≡ ended (places (dirty T I J) (k + 1) d) (fresh T J))
-            → walk T n (midway k) ≡ ended (places (dirty T I J) k (suc d)) (fresh T J)
+            → ((n : ℕ) (M : Worklist) → Waits (k + 1) M → d ≤ n → walk T n (midway (k + 1) M) ≡ ended (places (dirty T I J) (k + 1) d) (fresh T J))
+            → walk T n (midway k L) ≡ ended (places (dirty T I J) k (suc d)) (fresh T J)
         go true p zero m ih = absurd (not-suc-le-zero m)
         go true p (suc n) m ih =
-            rw (midway-step k (omega arith) p, next, ih n (omega arith), places-yes (dirty T I J) k d p)
+            let r = midway-step k L x (omega arith) p in
+            rw (r .2, ap (λ i. midway i (r .0)) next, ih n (r .0) (subst (λ i. Waits i (r .0)) next (r .1)) (omega arith), places-yes (dirty T I J) k d p)
         go false p n m ih =
-            ap (walk T n) (midway-skip k (omega arith) p ∙ next) ∙ ih n (omega arith)
+            let r = midway-skip k L x (omega arith) p in
+            ap (walk T n) (r .1 ∙ ap (λ i. midway i L) next) ∙ ih n L (subst (λ i. Waits i L) next (r .0)) (omega arith)
             ∙ ap (λ ks. ended ks (fresh T J)) (sym (places-no (dirty T I J) k d p))

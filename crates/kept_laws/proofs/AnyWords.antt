@@ -137,10 +137,10 @@ module _ (T : Tables) where
     written-keeps : (v : Verdict) (n : ℕ) (d : Evaluation) → Fits T d → Keeps ws (record { answer = accepted v n; words = written T ws d })
     unfolding written
     written-keeps v n d f =
-        let two : length (section T ws 1) ≡ 2 = length-unused T ws (omega (arith, room T)) in
-        let behind : drop (used T) (image d (section T ws 1) (section T ws 9)) ≡ drop (used T) ws = behind-image T d f (section T ws 1) (section T ws 9) two ∙ section-rest T ws in
+        let one : length (section T ws 1) ≡ 1 = length-unused T ws (omega (arith, room T)) in
+        let behind : drop (used T) (image d (section T ws 1) (section T ws 9)) ≡ drop (used T) ws = behind-image T d f (section T ws 1) (section T ws 9) one ∙ section-rest T ws in
         record {
-          long = length-image T d f (section T ws 1) (section T ws 9) two ∙ ap (λ n. used T + n) (ap length (section-rest T ws) ∙ length-drop (used T) ws) ∙ (omega (arith, room T));
+          long = length-image T d f (section T ws 1) (section T ws 9) one ∙ ap (λ n. used T + n) (ap length (section-rest T ws) ∙ length-drop (used T) ws) ∙ (omega (arith, room T));
           past = sym (deeper (image d (section T ws 1) (section T ws 9))) ∙ ap (drop (listed T - used T)) behind ∙ deeper ws;
           refusal = λ r e. let z : _≡_ {A = ℕ} 0 1 = cc in absurd (omega arith);
         }

@@ -100,30 +100,30 @@ module _ (T : Tables) where
   abbrev left : List ℕ → List ℕ
   left rest = take (listed T - used T) rest
 
-  image-listed : (e : Evaluation) → Fits T e → (unused rest : List ℕ) → length unused ≡ 2 → listedKept T (image e unused rest) ≡ image e unused (left rest)
-  image-listed e f unused rest two =
-      let n : listed T ≡ length (image e unused []) + (listed T - used T) = omega (arith, room T, length-image T e f unused [] two) in
+  image-listed : (e : Evaluation) → Fits T e → (unused rest : List ℕ) → length unused ≡ 1 → listedKept T (image e unused rest) ≡ image e unused (left rest)
+  image-listed e f unused rest one =
+      let n : listed T ≡ length (image e unused []) + (listed T - used T) = omega (arith, room T, length-image T e f unused [] one) in
       ap₂ take n (image-split e unused rest) ∙ take-append-add (image e unused []) rest (listed T - used T) ∙ sym (image-split e unused (left rest))
 
   module _ (ws : List ℕ) (l : listed T ≤ length ws) where
     fits : Fits T (ofWords T ws)
     fits = fits-of T ws (omega (arith, room T))
 
-    two : length (section T ws 1) ≡ 2
-    two = length-unused T ws (omega (arith, room T))
+    one : length (section T ws 1) ≡ 1
+    one = length-unused T ws (omega (arith, room T))
 
     words-listed : listedKept T ws ≡ image (ofWords T ws) (section T ws 1) (left (section T ws 9))
-    words-listed = ap (listedKept T) (sym (image-of T ws (omega (arith, room T)))) ∙ image-listed (ofWords T ws) fits (section T ws 1) (section T ws 9) two
+    words-listed = ap (listedKept T) (sym (image-of T ws (omega (arith, room T)))) ∙ image-listed (ofWords T ws) fits (section T ws 1) (section T ws 9) one
 
     held-listed : ofWords (listedTables T) (listedKept T ws) ≡ ofWords T ws
     unfolding ofWords
-    held-listed = ap (ofWords T) words-listed ∙ of-image T (ofWords T ws) fits (section T ws 1) (left (section T ws 9)) two
+    held-listed = ap (ofWords T) words-listed ∙ of-image T (ofWords T ws) fits (section T ws 1) (left (section T ws 9)) one
 
     written-listed : (d : Evaluation) → Fits T d → listedKept T (written (listedTables T) (listedKept T ws) d) ≡ listedKept T (written T ws d)
     unfolding written
     written-listed d f =
-        ap (listedKept T) (ap (λ xs. written T xs d) words-listed ∙ written-image T (ofWords T ws) fits (section T ws 1) (left (section T ws 9)) two d
-        ∙ sym (image-listed d f (section T ws 1) (section T ws 9) two))
+        ap (listedKept T) (ap (λ xs. written T xs d) words-listed ∙ written-image T (ofWords T ws) fits (section T ws 1) (left (section T ws 9)) one d
+        ∙ sym (image-listed d f (section T ws 1) (section T ws 9) one))
         ∙ take-take (listed T) (listed T) (written T ws d) (omega arith)
 
     cleared-listed : listedKept T (cleared (listedTables T) (listedKept T ws)) ≡ listedKept T (cleared T ws)

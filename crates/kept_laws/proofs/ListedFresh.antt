@@ -23,6 +23,7 @@ use Rattle.theory.specs.declared.Refusal.the-variants.{BadEntry}
 use Rattle.kept.specs.Tables.{Tables, atomCount, nodeCount, rootCount, rootAt, headAt, bodyAt}
 use Rattle.kept.specs.Seen.{seenBy}
 use Rattle.kept.specs.SeenLaws.{seen-is, seen-agree}
+use Rattle.kept.specs.Worklist.{worklistOf}
 use Rattle.kept.specs.Evaluation.{held, truth, bodyTrue, supports, support, falseRoot, summary, fresh}
 use Rattle.kept.specs.EntryLaws.{nodes-ok, body-within, root-within}
 use Rattle.kept.specs.HeldLaws.{held-agree}
@@ -129,8 +130,8 @@ module _ (T : Tables) (J : Interpretation) where
       fresh-listed : fresh (listedTables T) J ≡ fresh T J
       unfolding fresh summary held
       fresh-listed =
-          held-agree T (truth (listedTables T) J) (truth T J) (λ k. false) (λ k. false) (support (listedTables T) (truth (listedTables T) J)) (support T (truth T J)) J J
-          (falseRoot (listedTables T) (truth (listedTables T) J)) (falseRoot T (truth T J)) truths-agree (λ k l. refl) (λ a l. support-agree a) (λ a l. refl) roots-agree
+          held-agree T (truth (listedTables T) J) (truth T J) (worklistOf (λ k. false) (nodeCount T)) (support (listedTables T) (truth (listedTables T) J)) (support T (truth T J)) J J
+          (falseRoot (listedTables T) (truth (listedTables T) J)) (falseRoot T (truth T J)) truths-agree (λ a l. support-agree a) (λ a l. refl) roots-agree
 
       verdict-listed : verdict (listedTables T) J ≡ verdict T J
       verdict-listed =

@@ -16,11 +16,11 @@ use Rattle.readers.specs.declared.Reading.{Reading}
 use Rattle.readers.specs.declared.Reading.the-variants.{Node, Producer, Root, Unknown}
 use Rattle.readers.specs.Reader.{readingOf}
 use Rattle.kept.specs.CountedSet.{andThen, withBit, withMember, Lookup, empty, astray, at, lookup}
-use Rattle.kept.specs.Worklist.{withFirst}
+use Rattle.kept.specs.Worklist.{Worklist, withoutFirst}
 use Rattle.kept.specs.Tables.{Tables, atomCount, nodeCount, rootCount, headAt}
 use Rattle.kept.specs.Evaluation.{Evaluation, truthAt, present, truthWord}
 use Rattle.kept.specs.Parts.{withTruths, withWorklist, withCandidate}
-use Rattle.kept.specs.Step.{Stepped, idle, took, fault, entered, missingBy, supportMoved, rootTurned, readerUpdated, readersUpdated, tookAt, settled, seen, leaving, settledFrom, stepAt, step}
+use Rattle.kept.specs.Step.{Stepped, idle, took, fault, entered, missingBy, supportMoved, rootTurned, readerUpdated, readersUpdated, tookAt, settled, seen, settledFrom, stepAt, step}
 use Rattle.kept.specs.Start.{allEntered, atomTurned, atomUpdated, walkStart}
 use Rattle.kept.specs.Walk.{broken, onward, walk, walkFrom, keptWalk}
 use Rattle.kept.specs.Verdict.{notModel, judged, verdictOf}
@@ -100,11 +100,10 @@ module _ (T : Tables) where
         ap₂ (λ o f. cond (unlike (truthAt e k) t) (tookAt k (andThen o f)) (took k e)) (readers-listed T k l)
         (fun-ext (all-readers-listed k t (withTruths e (set (e .truths) k (truthWord t)))))
 
-    settled-from-listed : (k : ℕ) (e : Evaluation) → k < nodeCount T → (o : Option Bool) → settledFrom (listedTables T) k e o ≡ settledFrom T k e o
-    settled-from-listed k e l none = refl
-    settled-from-listed k e l (some t) =
-        ap₂ (λ x y. cond (eqb (e .worklist .others .size) 0) x (leaving (nodeCount T) y))
-        (settled-listed k t (withWorklist e (withFirst (e .worklist) (nodeCount T))) l) (settled-listed k t e l)
+    settled-from-listed : (k : ℕ) (e : Evaluation) → k < nodeCount T → (o : Option Bool) (w : Option Worklist) → settledFrom (listedTables T) k e o w ≡ settledFrom T k e o w
+    settled-from-listed k e l none w = refl
+    settled-from-listed k e l (some t) none = refl
+    settled-from-listed k e l (some t) (some w) = settled-listed k t (withWorklist e w) l
 
     step-at-listed : (e : Evaluation) (k : ℕ) → stepAt (listedTables T) e k ≡ stepAt T e k
     unfolding stepAt seen
@@ -114,11 +113,11 @@ module _ (T : Tables) where
         rest = cond (eqb k (nodeCount T)) idle (fault 0)
 
         go : (b : Bool) → ltb k (nodeCount T) ≡ b
-            → cond b (settledFrom (listedTables T) k e (seen (listedTables T) e k)) rest
-            ≡ cond b (settledFrom T k e (seen T e k)) rest
+            → cond b (settledFrom (listedTables T) k e (seen (listedTables T) e k) (withoutFirst (nodeCount T) (e .worklist))) rest
+            ≡ cond b (settledFrom T k e (seen T e k) (withoutFirst (nodeCount T) (e .worklist))) rest
         go true q =
             let l : k < nodeCount T = ltb-true k (nodeCount T) q in
-            rw (seen-listed T (present e) (truthAt e) k l) (settled-from-listed k e l (seen T e k))
+            rw (seen-listed T (present e) (truthAt e) k l) (settled-from-listed k e l (seen T e k) (withoutFirst (nodeCount T) (e .worklist)))
         go false q = refl
 
     -- ---- the walk

@@ -2,13 +2,13 @@
 -- Assumes nothing.
 use Prim.Native.Nat.{ℕ, zero, suc, _<_, _*_, _/_}
 use native.Mathlib.Omega.{arith}
-use mathlib.Core.Path.{_≡_, refl, ap, sym, _∙_, subst}
+use mathlib.Core.Path.{_≡_, refl, ap, sym, _∙_}
 use mathlib.Core.Bool.{Bool, true, false, not, cond, _&&_, _||_}
 use mathlib.Core.List.{List, [], _∷_}
 use mathlib.Core.Option.{Option, some, none}
 use lib.Dec.{eqb, ltb}
 use lib.ListN.{length, getD, set, length-set}
-use borrow.Author.Tests.{lt-ltb, ltb-true}
+use borrow.Author.Tests.{ltb-true}
 use Rattle.base.specs.Tests.{both-left, both-right}
 use Rattle.formula.specs.Satisfaction.{Interpretation}
 use Rattle.words.specs.Changed.{unlike}
@@ -25,7 +25,7 @@ use Rattle.kept.specs.Worklist.{Worklist, withFirst, behind, alone, withNode, f
 use Rattle.kept.specs.Tables.{Tables, atomCount, nodeCount, rootCount, headAt, readersAt, atomNodesAt}
 use Rattle.kept.specs.Evaluation.{Evaluation, truthAt, present, truthWord}
 use Rattle.kept.specs.Parts.{withTruths, withWorklist, withSupport, withCandidate, withFalseRoots}
-use Rattle.kept.specs.Step.{entered, missingBy, supportMoved, rootTurned, readerUpdated, readersUpdated, Stepped, idle, took, fault, tookAt, settled, leftAt, leaving, settledFrom, seen, stepAt, step}
+use Rattle.kept.specs.Step.{entered, missingBy, supportMoved, rootTurned, readerUpdated, readersUpdated, took, tookAt, settled, settledFrom, seen, idle, fault, stepAt, step}
 use Rattle.kept.specs.Start.{allEntered, atomTurned, atomUpdated, walkStart}
 use Rattle.kept.specs.LayoutLaws.{Fits}
 
@@ -55,9 +55,9 @@ pub record Alike (w r : Worklist) : Type 0 where
   pub groups : length (r .groups) ≡ length (w .groups)
 
 -- a node behind the first
-behind-is : (n : ℕ) (w : Worklist) (m : ℕ) (r : Worklist) → behind n w m ≡ some r → Alike w r × (r .first ≡ w .first)
+behind-is : (n : ℕ) (w : Worklist) (m s : ℕ) (r : Worklist) → behind n w m s ≡ some r → Alike w r × (r .first ≡ w .first)
 unfolding behind
-behind-is n w m r e =
+behind-is n w m s r e =
     let t = then-some (withMember n (w .others) m true) (λ o. some (put o)) r e in
     let i : put (t .0) ≡ r = some-is (put (t .0)) r (t .2) in (
       record {
@@ -68,7 +68,7 @@ behind-is n w m r e =
     )
   where
     put : CountedSet → Worklist
-    put o = record { first = w .first; others = o; groups = inserted 32 (w .groups) (m / 32) }
+    put o = record { first = w .first; second = s; others = o; groups = inserted 32 (w .groups) (m / 32) }
 
 -- a node enters: above k, if it and the first are
 module _ (n : ℕ) (w : Worklist) (m : ℕ) (r : Worklist) where
@@ -85,21 +85,16 @@ module _ (n : ℕ) (w : Worklist) (m : ℕ) (r : Worklist) where
       lower : withFirst w m ≡ r → Enters
       lower i = (record { members = ap (λ y. length (y .others .members)) (sym i); groups = ap (λ y. length (y .groups)) (sym i) }, λ k a b. let x : m ≡ r .first = ap (λ y. y .first) i in omega (arith, x))
 
-      put : behind n (withFirst w m) (w .first) ≡ some r → Enters
-      put h = let b = behind-is n (withFirst w m) (w .first) r h in (record { members = b .0 .members; groups = b .0 .groups }, λ k x y. omega (arith, b .1))
+      put : behind n (withFirst w m) (w .first) (w .first) ≡ some r → Enters
+      put h = let b = behind-is n (withFirst w m) (w .first) (w .first) r h in (record { members = b .0 .members; groups = b .0 .groups }, λ k x y. omega (arith, b .1))
 
       go : (a : Bool) → ltb (w .first) m ≡ a → (b c d : Bool)
-          → cond a (behind n w m) (cond b (some w) (cond c (behind n (withFirst w m) (w .first)) (cond d (some (withFirst w m)) none))) ≡ some r → Enters
-      go true p b c d h = let x = behind-is n w m r h in (x .0, λ k y z. omega (arith, x .1))
+          → cond a (behind n w m 0) (cond b (some w) (cond c (behind n (withFirst w m) (w .first) (w .first)) (cond d (some (withFirst w m)) none))) ≡ some r → Enters
+      go true p b c d h = let x = behind-is n w m 0 r h in (x .0, λ k y z. omega (arith, x .1))
       go false p true c d h = same (some-is w r h)
       go false p false true d h = put h
       go false p false false true h = lower (some-is (withFirst w m) r h)
       go false p false false false h = let z : _≡_ {A = ℕ} 0 1 = cc in absurd (omega arith)
-
--- a node above the first enters behind it
-node-stays : (n : ℕ) (w : Worklist) (m : ℕ) (r : Worklist) → withNode n w m ≡ some r → w .first < m → r .first ≡ w .first
-unfolding withNode
-node-stays n w m r e l = let h : behind n w m ≡ some r = rw (lt-ltb (w .first) m l) at e in behind-is n w m r h .1
 
 -- the first leaves: what comes first is above it
 module _ (n : ℕ) (w : Worklist) (r : Worklist) where
@@ -166,6 +161,17 @@ module _ (T : Tables) where
       let t = then-some (withNode (nodeCount T) (e .worklist) m) (λ w. some (withWorklist e w)) d h in
       rw (some-is (withWorklist e (t .0)) d (t .2)) at (worklist-fits e (t .0) (node-is (nodeCount T) (e .worklist) m (t .0) (t .1) .0) f)
 
+  -- what waits is above k
+  abbrev pub Above : ℕ → Evaluation → Type 0
+  Above k e = k < e .worklist .first
+
+  entered-above : (k m : ℕ) (e d : Evaluation) → entered T m e ≡ some d → k < m → Above k e → Above k d
+  unfolding entered
+  entered-above k m e d h l a =
+      let t = then-some (withNode (nodeCount T) (e .worklist) m) (λ w. some (withWorklist e w)) d h in
+      let i : t .0 .first ≡ d .worklist .first = ap (λ y. y .worklist .first) (some-is (withWorklist e (t .0)) d (t .2)) in
+      omega (arith, i, node-is (nodeCount T) (e .worklist) m (t .0) (t .1) .1 k l a)
+
   pub missing-long : (a s n : ℕ) (e : Evaluation) (m : CountedSet) → missingBy T a s n e ≡ some m → length (m .members) ≡ length (e .missing .members)
   unfolding missingBy
   missing-long a s n e m h = go (eqb s 0 || eqb n 0) h
@@ -188,43 +194,36 @@ module _ (T : Tables) where
       let p = then-some (withMember (rootCount T) (e .falseRoots) r (not t)) (λ m. some (withFalseRoots e m)) d h in
       rw (some-is (withFalseRoots e (p .0)) d (p .2)) at (roots-fit e (p .0) (length-members (rootCount T) (e .falseRoots) r (not t) (p .0) (p .1)) f)
 
-  moved-same : (t : Bool) (a : ℕ) (e d : Evaluation) → supportMoved T t a e ≡ some d → e .worklist ≡ d .worklist
+  moved-above : (t : Bool) (a : ℕ) (e d : Evaluation) → supportMoved T t a e ≡ some d → e .worklist ≡ d .worklist
   unfolding supportMoved
-  moved-same t a e d h =
+  moved-above t a e d h =
       let p = then-some (moved (T .made) t (getD (e .support) a 0)) (λ n. andThen (missingBy T a (getD (e .support) a 0) n e) (λ m. some (withSupport e (set (e .support) a n) m))) d h in
       let q = then-some (missingBy T a (getD (e .support) a 0) (p .0) e) (λ m. some (withSupport e (set (e .support) a (p .0)) m)) d (p .2) in
       ap (λ y. y .worklist) (some-is (withSupport e (set (e .support) a (p .0)) (q .0)) d (q .2))
 
-  turned-same : (t : Bool) (r : ℕ) (e d : Evaluation) → rootTurned T t r e ≡ some d → e .worklist ≡ d .worklist
+  turned-above : (t : Bool) (r : ℕ) (e d : Evaluation) → rootTurned T t r e ≡ some d → e .worklist ≡ d .worklist
   unfolding rootTurned
-  turned-same t r e d h =
+  turned-above t r e d h =
       let p = then-some (withMember (rootCount T) (e .falseRoots) r (not t)) (λ m. some (withFalseRoots e m)) d h in
       ap (λ y. y .worklist) (some-is (withFalseRoots e (p .0)) d (p .2))
 
-  -- what goes on holding of a worklist as nodes above k enter holds once readers of k are told
-  module _ (k : ℕ) (P : Worklist → Type 0) (enters : (m : ℕ) (w r : Worklist) → k < m → withNode (nodeCount T) w m ≡ some r → P w → P r) where
-    entered-holds : (m : ℕ) (e d : Evaluation) → entered T m e ≡ some d → k < m → P (e .worklist) → P (d .worklist)
-    unfolding entered
-    entered-holds m e d h l a =
-        let t = then-some (withNode (nodeCount T) (e .worklist) m) (λ w. some (withWorklist e w)) d h in
-        subst P (ap (λ y. y .worklist) (some-is (withWorklist e (t .0)) d (t .2))) (enters m (e .worklist) (t .0) l (t .1) a)
+  reader-above : (k : ℕ) (t : Bool) (e d : Evaluation) (x : Reading) → readerUpdated T k t e x ≡ some d → Above k e → Above k d
+  unfolding readerUpdated
+  reader-above k t e d (Node m) h a =
+      let p = if-some (ltb k m && ltb m (nodeCount T)) (entered T m e) d h in
+      entered-above k m e d (p .1) (ltb-true k m (both-left (ltb k m) (ltb m (nodeCount T)) (p .0))) a
+  reader-above k t e d (Producer p) h a =
+      let i = moved-above t (headAt T p) e d (if-some (ltb p (T .made) && ltb (headAt T p) (atomCount T)) (supportMoved T t (headAt T p) e) d h .1) in
+      rw i at a
+  reader-above k t e d (Root r) h a = let i = turned-above t r e d (if-some (ltb r (rootCount T)) (rootTurned T t r e) d h .1) in rw i at a
+  reader-above k t e d Unknown h a = let z : _≡_ {A = ℕ} 0 1 = cc in absurd (omega arith)
 
-    reader-holds : (t : Bool) (e d : Evaluation) (x : Reading) → readerUpdated T k t e x ≡ some d → P (e .worklist) → P (d .worklist)
-    unfolding readerUpdated
-    reader-holds t e d (Node m) h a =
-        let p = if-some (ltb k m && ltb m (nodeCount T)) (entered T m e) d h in
-        entered-holds m e d (p .1) (ltb-true k m (both-left (ltb k m) (ltb m (nodeCount T)) (p .0))) a
-    reader-holds t e d (Producer p) h a =
-        subst P (moved-same t (headAt T p) e d (if-some (ltb p (T .made) && ltb (headAt T p) (atomCount T)) (supportMoved T t (headAt T p) e) d h .1)) a
-    reader-holds t e d (Root r) h a = subst P (turned-same t r e d (if-some (ltb r (rootCount T)) (rootTurned T t r e) d h .1)) a
-    reader-holds t e d Unknown h a = let z : _≡_ {A = ℕ} 0 1 = cc in absurd (omega arith)
-
-    readers-holds : (t : Bool) (e d : Evaluation) (xs : List ℕ) → readersUpdated T k t e xs ≡ some d → P (e .worklist) → P (d .worklist)
-    unfolding readersUpdated
-    readers-holds t e d [] h a = subst P (ap (λ y. y .worklist) (some-is e d h)) a
-    readers-holds t e d (x ∷ xs) h a =
-        let p = then-some (readerUpdated T k t e (readingOf x)) (λ b. readersUpdated T k t b xs) d h in
-        readers-holds t (p .0) d xs (p .2) (reader-holds t e (p .0) (readingOf x) (p .1) a)
+  readers-above : (k : ℕ) (t : Bool) (e d : Evaluation) (xs : List ℕ) → readersUpdated T k t e xs ≡ some d → Above k e → Above k d
+  unfolding readersUpdated
+  readers-above k t e d [] h a = rw (some-is e d h) at a
+  readers-above k t e d (x ∷ xs) h a =
+      let p = then-some (readerUpdated T k t e (readingOf x)) (λ b. readersUpdated T k t b xs) d h in
+      readers-above k t (p .0) d xs (p .2) (reader-above k t e (p .0) (readingOf x) (p .1) a)
 
   pub reader-fits : (k : ℕ) (t : Bool) (e d : Evaluation) (x : Reading) → readerUpdated T k t e x ≡ some d → Fits T e → Fits T d
   unfolding readerUpdated
@@ -258,94 +257,56 @@ module _ (T : Tables) where
           (p .0, told (q .0) (q .2))
       go false h = let i : e ≡ d = cc in (cc, rw i at same)
 
-  -- node k settles: what goes on holding of a worklist as nodes above k enter holds then
-  settled-holds : (k : ℕ) (P : Worklist → Type 0) → ((m : ℕ) (w r : Worklist) → k < m → withNode (nodeCount T) w m ≡ some r → P w → P r)
-      → (m : ℕ) (t : Bool) (e d : Evaluation) → settled T k t e ≡ took m d → P (e .worklist) → (k ≡ m) × P (d .worklist)
-  settled-holds k P enters m t e d h a =
-      settled-cases k m t e d h (λ y. P (y .worklist)) a (λ xs y. readers-holds k P enters t (withTruths e (set (e .truths) k (truthWord t))) d xs y a)
-
-  pub settled-fits : (k m : ℕ) (t : Bool) (e d : Evaluation) → settled T k t e ≡ took m d → Fits T e → Fits T d
-  settled-fits k m t e d h f =
-      settled-cases k m t e d h (Fits T) f (λ xs y. readers-fit k t (withTruths e (set (e .truths) k (truthWord t))) d xs y (truths-fit e k (truthWord t) f)) .1
-
-  -- and the first stays first, if it was k
-  pub settled-stays : (k m : ℕ) (t : Bool) (e d : Evaluation) → settled T k t e ≡ took m d → e .worklist .first ≡ k → (k ≡ m) × (d .worklist .first ≡ k)
-  settled-stays k m t e d h f = settled-holds k (λ w. w .first ≡ k) (λ i w r a b q. node-stays (nodeCount T) w i r b (omega (arith, a, q)) ∙ q) m t e d h f
-
-  -- what waits is above k
-  abbrev pub Above : ℕ → Evaluation → Type 0
-  Above k e = k < e .worklist .first
-
-  -- the first node was taken, and what waits is above it then
+  -- node m was the first, its truth seen, and it left the worklist
   pub record Taken (e : Evaluation) (m : ℕ) (d : Evaluation) : Type 0 where
     pub first : e .worklist .first ≡ m
     pub below : m < nodeCount T
-    pub above : Above m d
-    pub fits : Fits T e → Fits T d
-
-  module _ (e : Evaluation) (k : ℕ) (f : e .worklist .first ≡ k) (l : k < nodeCount T) (t : Bool) (m : ℕ) (d : Evaluation) where
-    -- off the worklist at once
-    alone-taken : settled T k t (withWorklist e (withFirst (e .worklist) (nodeCount T))) ≡ took m d → Taken e m d
-    alone-taken h =
-        let a = settled-holds k (λ w. k < w .first) (λ j w r i p q. node-is (nodeCount T) w j r p .1 k i q) m t (withWorklist e (withFirst (e .worklist) (nodeCount T))) d h l in
-        let q : k ≡ m = a .0 in
-        record {
-          first = f ∙ q;
-          below = omega (arith, l, q);
-          above = omega (arith, a .1, q);
-          fits = λ x. settled-fits k m t (withWorklist e (withFirst (e .worklist) (nodeCount T))) d h (worklist-fits e (withFirst (e .worklist) (nodeCount T)) (record { members = refl; groups = refl }) x);
-        }
-
-    -- once its readers are told
-    last-taken : (s : Stepped) → settled T k t e ≡ s → leaving (nodeCount T) s ≡ took m d → Taken e m d
-    last-taken idle p h = let z : _≡_ {A = ℕ} 0 1 = cc in absurd (omega arith)
-    last-taken (fault j) p h = let z : _≡_ {A = ℕ} 0 1 = cc in absurd (omega arith)
-    last-taken (took j c) p h = left (withoutFirst (nodeCount T) (c .worklist)) refl h
-      where
-        stays : (k ≡ j) × (c .worklist .first ≡ k)
-        stays = settled-stays k j t e c p f
-
-        left : (o : Option Worklist) → withoutFirst (nodeCount T) (c .worklist) ≡ o → leftAt j c o ≡ took m d → Taken e m d
-        left none q h = let z : _≡_ {A = ℕ} 0 1 = cc in absurd (omega arith)
-        left (some w) q h =
-            let i : j ≡ m = cc in
-            let same : withWorklist c w ≡ d = cc in
-            let away = left-is (nodeCount T) (c .worklist) w q in
-            let up : w .first ≡ d .worklist .first = ap (λ y. y .worklist .first) same in
-            record {
-              first = f ∙ stays .0 ∙ i;
-              below = omega (arith, l, stays .0, i);
-              above = omega (arith, away .1 (omega (arith, stays .1, l)), stays .0, stays .1, i, up);
-              fits = λ x. subst (Fits T) same (worklist-fits c w (away .0) (settled-fits k j t e c p x));
-            }
+    pub truth : Bool
+    pub known : seen T e m ≡ some truth
+    pub left : Worklist
+    pub off : withoutFirst (nodeCount T) (e .worklist) ≡ some left
+    pub rest : settled T m truth (withWorklist e left) ≡ took m d
 
   pub taken : (e : Evaluation) (m : ℕ) (d : Evaluation) → step T e ≡ took m d → Taken e m d
   unfolding step stepAt
-  taken e m d h = go (ltb k (nodeCount T)) refl (eqb k (nodeCount T)) h
+  taken e m d h = from (e .worklist .first) refl h
     where
-      k : ℕ
-      k = e .worklist .first
+      from : (k : ℕ) → e .worklist .first ≡ k → stepAt T e k ≡ took m d → Taken e m d
+      from k f h = go (ltb k (nodeCount T)) refl (eqb k (nodeCount T)) h
+        where
+          whole : k < nodeCount T → (t : Bool) → seen T e k ≡ some t → (w : Worklist) → withoutFirst (nodeCount T) (e .worklist) ≡ some w
+              → settled T k t (withWorklist e w) ≡ took m d → k ≡ m → Taken e m d
+          whole l t s w o h q =
+              let made : Taken e k d → Taken e m d = λ x. rw q at x in
+              made (record { first = f; below = l; truth = t; known = s; left = w; off = o; rest = h ∙ ap (λ j. took j d) (sym q) })
 
-      either : k < nodeCount T → (t b : Bool)
-          → cond b (settled T k t (withWorklist e (withFirst (e .worklist) (nodeCount T)))) (leaving (nodeCount T) (settled T k t e)) ≡ took m d → Taken e m d
-      either l t true h = alone-taken e k refl l t m d h
-      either l t false h = last-taken e k refl l t m d (settled T k t e) refl h
+          leave : k < nodeCount T → (b : Option Bool) → seen T e k ≡ b → (o : Option Worklist) → withoutFirst (nodeCount T) (e .worklist) ≡ o
+              → settledFrom T k e b o ≡ took m d → Taken e m d
+          leave l none s o q h = let z : _≡_ {A = ℕ} 0 1 = cc in absurd (omega arith)
+          leave l (some t) s none q h = let z : _≡_ {A = ℕ} 0 1 = cc in absurd (omega arith)
+          leave l (some t) s (some w) q h = whole l t s w q h (settled-cases k m t (withWorklist e w) d h (λ y. Unit {0}) tt (λ xs y. tt) .0)
 
-      known : k < nodeCount T → (o : Option Bool) → settledFrom T k e o ≡ took m d → Taken e m d
-      known l none h = let z : _≡_ {A = ℕ} 0 1 = cc in absurd (omega arith)
-      known l (some t) h = either l t (eqb (e .worklist .others .size) 0) h
-
-      go : (b : Bool) → ltb k (nodeCount T) ≡ b → (c : Bool) → cond b (settledFrom T k e (seen T e k)) (cond c idle (fault 0)) ≡ took m d → Taken e m d
-      go true p c h = known (ltb-true k (nodeCount T) p) (seen T e k) h
-      go false p true h = let z : _≡_ {A = ℕ} 0 1 = cc in absurd (omega arith)
-      go false p false h = let z : _≡_ {A = ℕ} 0 1 = cc in absurd (omega arith)
+          go : (b : Bool) → ltb k (nodeCount T) ≡ b → (c : Bool)
+              → cond b (settledFrom T k e (seen T e k) (withoutFirst (nodeCount T) (e .worklist))) (cond c idle (fault 0)) ≡ took m d → Taken e m d
+          go true p c h = leave (ltb-true k (nodeCount T) p) (seen T e k) refl (withoutFirst (nodeCount T) (e .worklist)) refl h
+          go false p true h = let z : _≡_ {A = ℕ} 0 1 = cc in absurd (omega arith)
+          go false p false h = let z : _≡_ {A = ℕ} 0 1 = cc in absurd (omega arith)
 
   pub step-fits : (e : Evaluation) (m : ℕ) (d : Evaluation) → step T e ≡ took m d → Fits T e → Fits T d
-  step-fits e m d h f = taken e m d h .fits f
+  step-fits e m d h f =
+      let t = taken e m d h in
+      let g : Fits T (withWorklist e (t .left)) = worklist-fits e (t .left) (left-is (nodeCount T) (e .worklist) (t .left) (t .off) .0) f in
+      settled-cases m m (t .truth) (withWorklist e (t .left)) d (t .rest) (Fits T) g
+      (λ xs y. readers-fit m (t .truth) (withTruths (withWorklist e (t .left)) (set (e .truths) m (truthWord (t .truth)))) d xs y (truths-fit (withWorklist e (t .left)) m (truthWord (t .truth)) g)) .1
 
   -- what waits after it is above the node
   pub step-above : (e : Evaluation) (m : ℕ) (d : Evaluation) → step T e ≡ took m d → Above m d
-  step-above e m d h = taken e m d h .above
+  step-above e m d h =
+      let t = taken e m d h in
+      let l : e .worklist .first < t .left .first = left-is (nodeCount T) (e .worklist) (t .left) (t .off) .1 (omega (arith, t .first, t .below)) in
+      let a : Above m (withWorklist e (t .left)) = omega (arith, t .first, l) in
+      settled-cases m m (t .truth) (withWorklist e (t .left)) d (t .rest) (Above m) a
+      (λ xs y. readers-above m (t .truth) (withTruths (withWorklist e (t .left)) (set (e .truths) m (truthWord (t .truth)))) d xs y a) .1
 
   -- ---- the start
 

@@ -9,7 +9,7 @@ use lib.ListN.{length, getD, set, take, drop, List·getD-append}
 use lib.Seq.{set-append-left, getD-append-add, drop-append-seam, take-append-seam, take-append-add, drop-append-add}
 use Rattle.kept.specs.SetOf.{words32}
 use Rattle.kept.specs.CountedSet.{CountedSet}
-use Rattle.kept.specs.Worklist.{Worklist, withFirst}
+use Rattle.kept.specs.Worklist.{Worklist, withFirst, withSecond}
 use Rattle.kept.specs.Tables.{Tables, atomCount, nodeCount, rootCount}
 use Rattle.kept.specs.Evaluation.{Evaluation, support}
 use Rattle.kept.specs.Parts.{withTruths, withWorklist, withSupport, withCandidate, withFalseRoots}
@@ -70,12 +70,12 @@ abbrev pub withSize : CountedSet → ℕ → CountedSet
 withSize s n = record { members = s .members; size = n }
 
 abbrev pub withOthers : Worklist → CountedSet → Worklist
-withOthers w o = record { first = w .first; others = o; groups = w .groups }
+withOthers w o = record { first = w .first; second = w .second; others = o; groups = w .groups }
 
 abbrev pub withGroups : Worklist → List ℕ → Worklist
-withGroups w ws = record { first = w .first; others = w .others; groups = ws }
+withGroups w ws = record { first = w .first; second = w .second; others = w .others; groups = ws }
 
-module _ (T : Tables) (e : Evaluation) (fits : Fits T e) (unused rest : List ℕ) (two : length unused ≡ 2) where
+module _ (T : Tables) (e : Evaluation) (fits : Fits T e) (unused rest : List ℕ) (one : length unused ≡ 1) where
   abbrev ps : List (List ℕ)
   ps = parts e unused rest
 
@@ -158,6 +158,10 @@ module _ (T : Tables) (e : Evaluation) (fits : Fits T e) (unused rest : List ℕ
   pub store-first : (v : ℕ) → set (image e unused rest) 5 v ≡ image (withWorklist e (withFirst (e .worklist) v)) unused rest
   unfolding image flat
   store-first v = refl
+
+  pub store-second : (v : ℕ) → set (image e unused rest) 6 v ≡ image (withWorklist e (withSecond (e .worklist) v)) unused rest
+  unfolding image flat
+  store-second v = refl
 
   -- ---- loads
 

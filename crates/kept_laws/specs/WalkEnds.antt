@@ -11,11 +11,11 @@ use lib.ListN.{set}
 use borrow.Author.Tests.{eqb-true}
 use Rattle.words.specs.Changed.{unlike}
 use Rattle.kept.specs.CountedSet.{andThen}
-use Rattle.kept.specs.Worklist.{Worklist, withFirst, withoutFirst}
+use Rattle.kept.specs.Worklist.{Worklist, withoutFirst}
 use Rattle.kept.specs.Tables.{Tables, nodeCount, readersAt}
 use Rattle.kept.specs.Evaluation.{Evaluation, truthAt, truthWord}
 use Rattle.kept.specs.Parts.{withTruths, withWorklist}
-use Rattle.kept.specs.Step.{readersUpdated, Stepped, idle, took, fault, tookAt, settled, leftAt, leaving, settledFrom, seen, stepAt, step}
+use Rattle.kept.specs.Step.{readersUpdated, Stepped, idle, took, fault, tookAt, settled, settledFrom, seen, stepAt, step}
 use Rattle.kept.specs.Walk.{Walked, ended, broken, after, onward, walk}
 use Rattle.kept.specs.LayoutLaws.{Fits}
 use Rattle.kept_laws.specs.FitsLaws.{step-fits, step-above, taken}
@@ -80,27 +80,14 @@ module _ (T : Tables) where
   unfolding step stepAt
   idle-empty e h = go (ltb (firstOf e) (nodeCount T)) (eqb (firstOf e) (nodeCount T)) refl h
     where
-      leaving-works : (s : Stepped) → leaving (nodeCount T) s ≡ idle → s ≡ idle
-      leaving-works idle h = refl
-      leaving-works (fault j) h = cc
-      leaving-works (took j d) h = left (withoutFirst (nodeCount T) (d .worklist)) h
-        where
-          left : (o : Option Worklist) → leftAt j d o ≡ idle → took j d ≡ idle
-          left none h = cc
-          left (some w) h = cc
-
-      either : (k : ℕ) (t b : Bool)
-          → cond b (settled T k t (withWorklist e (withFirst (e .worklist) (nodeCount T)))) (leaving (nodeCount T) (settled T k t e)) ≡ idle → _≡_ {A = ℕ} 0 1
-      either k t true h = settled-works k t (withWorklist e (withFirst (e .worklist) (nodeCount T))) h
-      either k t false h = settled-works k t e (leaving-works (settled T k t e) h)
-
-      never : (k : ℕ) (t : Option Bool) → settledFrom T k e t ≡ idle → _≡_ {A = ℕ} 0 1
-      never k none h = cc
-      never k (some t) h = either k t (eqb (e .worklist .others .size) 0) h
+      never : (k : ℕ) (t : Option Bool) (o : Option Worklist) → settledFrom T k e t o ≡ idle → _≡_ {A = ℕ} 0 1
+      never k none o h = cc
+      never k (some t) none h = cc
+      never k (some t) (some w) h = settled-works k t (withWorklist e w) h
 
       go : (a b : Bool) → eqb (firstOf e) (nodeCount T) ≡ b
-          → cond a (settledFrom T (firstOf e) e (seen T e (firstOf e))) (cond b idle (fault 0)) ≡ idle → firstOf e ≡ nodeCount T
-      go true b q h = let z = never (firstOf e) (seen T e (firstOf e)) h in absurd (omega arith)
+          → cond a (settledFrom T (firstOf e) e (seen T e (firstOf e)) (withoutFirst (nodeCount T) (e .worklist))) (cond b idle (fault 0)) ≡ idle → firstOf e ≡ nodeCount T
+      go true b q h = let z = never (firstOf e) (seen T e (firstOf e)) (withoutFirst (nodeCount T) (e .worklist)) h in absurd (omega arith)
       go false true q h = eqb-true (firstOf e) (nodeCount T) q
       go false false q h = let z : _≡_ {A = ℕ} 0 1 = cc in absurd (omega arith)
 

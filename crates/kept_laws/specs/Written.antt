@@ -12,7 +12,7 @@ use Rattle.kept.specs.Parts.{withTruths, withWorklist, withSupport, withCandida
 use Rattle.kept.specs.Layout.{image, section, ofWords, written, truthsStart, worklistStart, supportStart, candidateStart, missingStart, falseRootsStart, groupsStart, used}
 use Rattle.kept.specs.LayoutLaws.{Fits, section-rest, of-image, written-image, behind-image, length-image, image-of, length-unused, fits-of}
 use Rattle.kept_laws.specs.Stores as stores
-use Rattle.kept.specs.Worklist.{withFirst}
+use Rattle.kept.specs.Worklist.{withFirst, withSecond}
 use Rattle.kept_laws.specs.Stores.{withMembers, withSize, withOthers, withGroups}
 
 module _ (T : Tables) (ws : List ℕ) (long : used T ≤ length ws) where
@@ -91,6 +91,10 @@ module _ (T : Tables) (ws : List ℕ) (long : used T ≤ length ws) where
     unfolding written
     put-first = stores.store-first T e fits (section T ws 1) (section T ws 9) (length-unused T ws long)
 
+    pub put-second : (v : ℕ) → set (written T ws e) 6 v ≡ written T ws (withWorklist e (withSecond (e .worklist) v))
+    unfolding written
+    put-second = stores.store-second T e fits (section T ws 1) (section T ws 9) (length-unused T ws long)
+
   -- ---- loads: what the words hold at a place is in the evaluation that they hold
 
   module _ where
@@ -162,3 +166,7 @@ get-worklist-size T ws = refl
 pub get-first : (T : Tables) (ws : List ℕ) → getD ws 5 0 ≡ ofWords T ws .worklist .first
 unfolding ofWords
 get-first T ws = refl
+
+pub get-second : (T : Tables) (ws : List ℕ) → getD ws 6 0 ≡ ofWords T ws .worklist .second
+unfolding ofWords
+get-second T ws = refl

@@ -13,9 +13,9 @@ use Rattle.kept.specs.Evaluation.{Evaluation}
 use Rattle.kept.specs.Parts.{withWorklist, withSupport}
 use Rattle.kept.specs.Step.{missingBy}
 
--- node m behind the first of the worklist
-unfoldable pub waiting : Tables → ℕ → Evaluation → Option Evaluation
-waiting T m e = andThen (behind (nodeCount T) (e .worklist) m) (λ w. some (withWorklist e w))
+-- node m behind the first of the worklist; s: what is then known of the second
+unfoldable pub waiting : Tables → ℕ → ℕ → Evaluation → Option Evaluation
+waiting T m s e = andThen (behind (nodeCount T) (e .worklist) m s) (λ w. some (withWorklist e w))
 
 -- the lowest member of word q in the place of the first
 unfoldable pub advancedTo : Tables → ℕ → Evaluation → Option Evaluation

@@ -66,25 +66,28 @@ fn turn(kept: &mut [u32], at: usize, size: usize, most: usize, i: usize, x: bool
     }
 }
 
-// Node m among those that wait behind the first.
-fn wait(counts: Counts, kept: &mut [u32], m: usize) -> bool
-    requires { ⌜ Limited counts × (m < counts .nodes) × (usedBy counts ≤ length (now kept)) ⌝ }
-    ensures { λ r. ⌜ ((T : Tables) → Wrote (sized counts T) (now (kept .entry)) (waiting (sized counts T) m (ofWords (sized counts T) (now (kept .entry)))) r (now (kept .exit))) ⌝ }
+// Node m among those that wait behind the first, and what is then known of the second: the lowest of them, or 0.
+fn wait(counts: Counts, kept: &mut [u32], m: usize, second: usize) -> bool
+    requires { ⌜ Limited counts × (m < counts .nodes) × (usedBy counts ≤ length (now kept)) × (second < counts .nodes) ⌝ }
+    ensures { λ r. ⌜ ((T : Tables) → Wrote (sized counts T) (now (kept .entry)) (waiting (sized counts T) m second (ofWords (sized counts T) (now (kept .entry)))) r (now (kept .exit))) ⌝ }
 {
     if !include(kept, 8 + counts.nodes, 4, counts.nodes, m) {
         return false;
     }
     mark(kept, kept_laws::groups_at(counts), m / 32, true);
+    kept[6] = second as u32;
     true
 }
 
 // Node m onto the worklist: the lower of it and the first comes first, the other waits behind; a first above the number of nodes is refused.
+// A first put behind is the second then, so that it need not be looked for when m leaves.
 pub fn queue(counts: Counts, kept: &mut [u32], m: usize) -> bool
     requires { ⌜ Limited counts × (m < counts .nodes) × (usedBy counts ≤ length (now kept)) ⌝ }
     ensures { λ r. ⌜ ((T : Tables) → Wrote (sized counts T) (now (kept .entry)) (entered (sized counts T) m (ofWords (sized counts T) (now (kept .entry)))) r (now (kept .exit))) ⌝ }
 {
     let first = words::word(kept, 5);
     let mut other = m;
+    let mut second = 0;
     if m <= first {
         if m == first {
             return true;
@@ -94,8 +97,9 @@ pub fn queue(counts: Counts, kept: &mut [u32], m: usize) -> bool
             return first == counts.nodes;
         }
         other = first;
+        second = first;
     }
-    wait(counts, kept, other)
+    wait(counts, kept, other, second)
 }
 
 // The first word from q on that has members by the groups.
@@ -118,7 +122,7 @@ fn regroup(counts: Counts, kept: &mut [u32], q: usize, rest: u32)
     }
 }
 
-// The lowest member of word q comes first, after node k; false if the word has none or it is not above k.
+// The lowest member of word q comes first, after node k, and the second is not known; false if the word has none or it is not above k.
 fn advance(counts: Counts, kept: &mut [u32], k: usize, q: usize) -> bool
     requires { ⌜ Limited counts × (q < words32 (counts .nodes)) × (usedBy counts ≤ length (now kept)) × (getD (now kept) 5 0 ≡ k) × (0 < getD (now kept) 4 0) ⌝ }
     ensures { λ r. ⌜ ((T : Tables) → Wrote (sized counts T) (now (kept .entry)) (advancedTo (sized counts T) q (ofWords (sized counts T) (now (kept .entry)))) r (now (kept .exit))) ⌝ }
@@ -138,6 +142,7 @@ fn advance(counts: Counts, kept: &mut [u32], k: usize, q: usize) -> bool
     regroup(counts, kept, q, rest);
     kept[4] = kept[4] - 1;
     kept[5] = m as u32;
+    kept[6] = 0;
     true
 }
 
@@ -149,6 +154,13 @@ pub fn dequeue(counts: Counts, kept: &mut [u32], k: usize) -> bool
     if kept[4] == 0 {
         kept[5] = counts.nodes as u32;
         return true;
+    }
+    let second = words::word(kept, 6);
+    if second != 0 {
+        if second / 32 >= (counts.nodes + 31) / 32 {
+            return false;
+        }
+        return advance(counts, kept, k, second / 32);
     }
     // the word of k first, as the groups take longer to read
     if kept[8 + counts.nodes + k / 32] != 0 {

@@ -5,14 +5,14 @@ use mathlib.Core.Path.{_≡_}
 use mathlib.Core.Bool.{Bool, cond}
 use mathlib.Core.List.{List}
 use mathlib.Core.Option.{Option, some}
-use lib.Dec.{eqb}
-use lib.ListN.{getD, set}
+use lib.ListN.{set}
 use Rattle.theory.specs.Limits.{Limited}
 use Rattle.theory.specs.declared.Counts.{Counts}
 use Rattle.words.specs.Changed.{unlike}
 use Rattle.readers.specs.ReaderTable.{readerWords}
 use Rattle.kept.specs.CountedSet.{andThen}
-use Rattle.kept.specs.Tables.{Tables, readersAt}
+use Rattle.kept.specs.Worklist.{withoutFirst}
+use Rattle.kept.specs.Tables.{Tables, nodeCount, readersAt}
 use Rattle.kept.specs.Evaluation.{Evaluation, truthAt, truthWord}
 use Rattle.kept.specs.Parts.{withTruths}
 use Rattle.kept.specs.Step.{readersUpdated, Stepped, idle, took, fault, settledFrom}
@@ -36,13 +36,9 @@ pub record Lent (t : Counts) (made nodes operands producers readers kept : ℕ) 
 unfoldable pub settledTo : Tables → ℕ → Bool → Evaluation → Option Evaluation
 settledTo T k t e = cond (unlike (truthAt e k) t) (andThen (readersAt T k) (readersUpdated T k t (withTruths e (set (e .truths) k (truthWord t))))) (some e)
 
--- node k, the first of the worklist, becomes t and leaves it
+-- node k, the first of the worklist, taken off it, and become t
 unfoldable pub takenFrom : Tables → ℕ → Bool → Evaluation → Stepped
-takenFrom T k t e = settledFrom T k e (some t)
-
--- the words once the first node is off the worklist, if none waits behind it
-unfoldable pub aloneLeft : Counts → List ℕ → List ℕ
-aloneLeft t ws = cond (eqb (getD ws 4 0) 0) (set ws 5 (t .nodes)) ws
+takenFrom T k t e = settledFrom T k e (some t) (withoutFirst (nodeCount T) (e .worklist))
 
 abbrev pub Steps : Tables → List ℕ → Stepped → Taking → List ℕ → Type 0
 Steps T ws idle r after = (r ≡ Idle) × (after ≡ ws)

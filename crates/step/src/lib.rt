@@ -3,7 +3,6 @@ ghost use mathlib.Core.Path.{_≡_};
 ghost use mathlib.Core.Bool.{Bool};
 ghost use mathlib.Core.Option.{some};
 ghost use Prim.Native.Nat.{_+_, _*_, _<_, _≤_};
-ghost use lib.Dec.{eqb};
 ghost use lib.ListN.{length, getD, set};
 ghost use Rattle.theory.specs.Limits.{Limited};
 ghost use Rattle.readers.specs.Reader.{readingOf};
@@ -15,7 +14,7 @@ ghost use Rattle.kept.specs.Step.{readerUpdated, readersUpdated, step};
 ghost use Rattle.kept_laws.specs.Given.{usedBy, produced, told, walked};
 ghost use Rattle.kept_laws.specs.Wrote.{Wrote};
 ghost use Rattle.node_truth.specs.InWords.{seenOf};
-ghost use Rattle.step.specs.Steps.{Lent, settledTo, takenFrom, aloneLeft, Steps};
+ghost use Rattle.step.specs.Steps.{Lent, settledTo, takenFrom, Steps};
 use node_truth::Seen;
 use readers::Reader;
 use theory::Counts;
@@ -98,7 +97,7 @@ fn store(kept: &mut [u32], k: usize, holds: bool)
     }
 }
 
-// Node k gets its truth; `from` is where its list of readers starts.
+// Node k, off the worklist, gets its truth; `from` is where its list of readers starts.
 fn settle(
     counts: Counts,
     made: usize,
@@ -123,19 +122,7 @@ fn settle(
     update_readers(counts, made, producers, list, kept, k, holds)
 }
 
-// The first node is off the worklist if none waits behind it, and whether that is so.
-fn leave_alone(counts: Counts, kept: &mut [u32]) -> bool
-    requires { ⌜ Limited counts × (usedBy counts ≤ length (now kept)) ⌝ }
-    ensures { λ r. ⌜ (r ≡ eqb (getD (now (kept .entry)) 4 0) 0) × (now (kept .exit) ≡ aloneLeft counts (now (kept .entry))) ⌝ }
-{
-    if kept[4] != 0 {
-        return false;
-    }
-    kept[5] = counts.nodes as u32;
-    true
-}
-
-// Node k, the first of the worklist, gets its truth and leaves it. Where others wait it leaves once its readers are told: the next one is then looked for from it on.
+// Node k, the first of the worklist, leaves it and gets its truth.
 fn take(
     counts: Counts,
     made: usize,
@@ -149,17 +136,13 @@ fn take(
     requires { ⌜ Limited counts × (made ≤ counts .roots) × (4 * counts .roots ≤ length (now producers)) × (readerWords counts ≤ length (now readers)) × (usedBy counts ≤ length (now kept)) × (k < counts .nodes) × (getD (now kept) 5 0 ≡ k) × (from ≡ getD (now readers) k 0) ⌝ }
     ensures { λ r. ⌜ ((T : Tables) → Steps (told counts made (now (producers .entry)) (now (readers .entry)) T) (now (kept .entry)) (takenFrom (told counts made (now (producers .entry)) (now (readers .entry)) T) k holds (ofWords (told counts made (now (producers .entry)) (now (readers .entry)) T) (now (kept .entry)))) r (now (kept .exit))) ⌝ }
 {
-    let alone = leave_alone(counts, kept);
-    if !settle(counts, made, producers, readers, kept, k, from, holds) {
-        return Taking::Fault(k);
+    if !retained::dequeue(counts, kept, k) {
+        return Taking::Fault(0);
     }
-    if alone {
-        return Taking::Took(k);
-    }
-    if retained::dequeue(counts, kept, k) {
+    if settle(counts, made, producers, readers, kept, k, from, holds) {
         Taking::Took(k)
     } else {
-        Taking::Fault(0)
+        Taking::Fault(k)
     }
 }
 

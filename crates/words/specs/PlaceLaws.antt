@@ -21,11 +21,11 @@ trailing-first w x = rw zero-add at (trailing-lowest w x)
 
 -- k is the answer
 module _ (w x k : ℕ) (is : k ≡ getD (places (bit x) 0 w) 0 w) where
-  trailing : k ≡ trailingZeros w x
-  trailing = is ∙ sym (trailing-first w x)
+  pub place-trailing : k ≡ trailingZeros w x
+  place-trailing = is ∙ sym (trailing-first w x)
 
   first : Lowest (bit x) 0 w k
-  first = rw trailing (trailing-is w x)
+  first = rw place-trailing (trailing-is w x)
 
   pub place-none : k ≡ w → places (bit x) 0 w ≡ []
   place-none e = places-none (bit x) 0 w (λ j a b. first .before j a (omega arith))
@@ -46,4 +46,4 @@ module _ (w x k : ℕ) (is : k ≡ getD (places (bit x) 0 w) 0 w) where
 
     -- once it is taken off the others are left
     pub place-off : x < 2 ^ w → places (bit x) 0 w ≡ k ∷ places (bit (bitAnd x (x - 1))) 0 w
-    place-off h = rw trailing (places-off w x place-some h)
+    place-off h = rw place-trailing (places-off w x place-some h)

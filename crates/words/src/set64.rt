@@ -35,7 +35,7 @@ pub fn next(words: &[u64], from: usize) -> usize
     if rest == 0 {
         return next_word(words, q + 1);
     }
-    from + u64::trailing_zeros(rest) as usize
+    from + crate::bits(rest, 0) as usize
 }
 
 // The same from the start of word `first` on.
@@ -48,7 +48,7 @@ fn next_word(words: &[u64], first: usize) -> usize
     while q < words.len() {
         let x = words[q];
         if x != 0 {
-            return 64 * q + u64::trailing_zeros(x) as usize;
+            return 64 * q + crate::bits(x, 0) as usize;
         }
         q += 1;
     }

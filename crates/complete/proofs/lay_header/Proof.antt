@@ -36,6 +36,9 @@ cast-kept c = search needs
 slice-write-kept-6 : tie.Need-slice-write-kept-6
 slice-write-kept-6 c = simp length-set (omega arith)
 
+slice-write-kept-7 : tie.Need-slice-write-kept-7
+slice-write-kept-7 c = simp length-set (omega arith)
+
 -- src/lib.rt:84:1
 same-length : tie.Need-same-length
 same-length c = search needs
@@ -55,5 +58,6 @@ lay-header-spec =
     slice-write-kept-5
     cast-kept
     slice-write-kept-6
+    slice-write-kept-7
     same-length
     returns)

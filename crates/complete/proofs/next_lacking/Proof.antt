@@ -1,7 +1,9 @@
 use Rattle.complete.specs.Search.{nextLacking, next-within, word-found, word-passed}
 use lib.Count.{trailing-le}
+use Rattle.words.specs.PlaceLaws.{place-trailing}
 use mathlib.Core.Path.{_≡_, refl, sym, _∙_}
 use Prim.Native.Nat.{_-_, _≤_, _/_, _%_, _^_}
+use native.Mathlib.Nat.{div-le-self}
 use native.Mathlib.Omega.{arith}
 use borrow.Author.Needs.{needs}
 use Rattle.complete.proofs.next_lacking.Statement.{statement}
@@ -33,17 +35,26 @@ cast-x c = search needs
 shr-x : tie.Need-shr-x Inv-loop μ-loop
 shr-x c = search needs
 
--- src/lib.rt:243:24
+cast-bits : tie.Need-cast-bits Inv-loop μ-loop
+cast-bits c = omega (arith, div-le-self (c .before .lacking .result) (2 ^ (c .before .before .before .before .loop .a % 32)), c .before .lacking .ok)
+
+bits-requires : tie.Need-bits-requires Inv-loop μ-loop
+bits-requires c κs = search needs
+
 cast-result : tie.Need-cast-result Inv-loop μ-loop
-cast-result c = omega (arith, trailing-le 32 (c .before .lacking .result / 2 ^ (c .before .before .before .before .loop .a % 32)))
+cast-result c = omega (arith, place-trailing 64 _ _ (c .bits .ensures), trailing-le 64 (c .before .before .lacking .result / 2 ^ (c .before .before .before .before .before .loop .a % 32)))
 
--- src/lib.rt:243:20
 add-result : tie.Need-add-result Inv-loop μ-loop
-add-result c = omega (arith, word-found (c .before .before .before .before .before .before .args .counts) (c .before .before .before .before .before .before .args .kept .now) (c .before .before .before .before .loop .a) (c .before .lacking .result) (c .before .before .if1 .taken) (c .before .lacking .ensures) (c .before .lacking .ok) (c .if2 .taken), next-within (c .before .before .before .before .before .before .args .counts) (c .before .before .before .before .before .before .args .kept .now) (c .before .before .before .before .loop .a) (c .before .before .before .before .loop .inv .0), c .before .before .before .before .before .before .pre)
+add-result c =
+    let g = c .before .before .before .before .before .before .before .args in
+    let a = c .before .before .before .before .before .loop .a in
+    omega (arith, place-trailing 64 _ _ (c .bits .ensures), word-found (g .counts) (g .kept .now) a (c .before .before .lacking .result) (c .before .before .before .if1 .taken) (c .before .before .lacking .ensures) (c .before .before .lacking .ok) (c .before .if2 .taken), next-within (g .counts) (g .kept .now) a (c .before .before .before .before .before .loop .inv .0), c .before .before .before .before .before .before .before .pre)
 
--- src/lib.rt:243:13
 returns : tie.Need-returns Inv-loop μ-loop
-returns c = sym (c .before .before .before .before .loop .inv .1 ∙ word-found (c .before .before .before .before .before .before .args .counts) (c .before .before .before .before .before .before .args .kept .now) (c .before .before .before .before .loop .a) (c .before .lacking .result) (c .before .before .if1 .taken) (c .before .lacking .ensures) (c .before .lacking .ok) (c .if2 .taken))
+returns c =
+    let g = c .before .before .before .before .before .before .before .args in
+    rw (place-trailing 64 _ _ (c .bits .ensures))
+    (sym (c .before .before .before .before .before .loop .inv .1 ∙ word-found (g .counts) (g .kept .now) (c .before .before .before .before .before .loop .a) (c .before .before .lacking .result) (c .before .before .before .if1 .taken) (c .before .before .lacking .ensures) (c .before .before .lacking .ok) (c .before .if2 .taken)))
 
 -- src/lib.rt:245:13
 mul-a : tie.Need-mul-a Inv-loop μ-loop
@@ -79,6 +90,8 @@ next-lacking-spec =
     lacking-requires
     cast-x
     shr-x
+    cast-bits
+    bits-requires
     cast-result
     add-result
     returns

@@ -3,6 +3,7 @@ use native.Mathlib.Omega.{arith}
 use mathlib.Core.Path.{sym, _∙_}
 use lib.ListN.{getD}
 use lib.Count.{trailing-le}
+use Rattle.words.specs.PlaceLaws.{place-trailing}
 use Rattle.words.specs.NextLaws.{next-within, next-end, next-rest, next-here}
 use borrow.Author.Needs.{needs}
 use Rattle.words.proofs.set64.next.Statement.{statement}
@@ -29,14 +30,22 @@ next-word-requires c κs = search needs
 returns-2 : tie.Need-returns-2
 returns-2 c = c .next-word .ensures ∙ sym (next-rest 64 (c .before .before .before .before .before .args .words .now) (c .before .before .before .before .before .args .from) (omega arith) (c .before .before .before .if1 .left) (c .before .if2 .taken))
 
+bits-requires : tie.Need-bits-requires
+bits-requires c κs = search needs
+
 cast-result : tie.Need-cast-result
-cast-result c = omega (arith, trailing-le 64 (getD (c .before .before .before .before .args .words .now) (c .before .before .before .before .args .from / 64) 0 / 2 ^ (c .before .before .before .before .args .from % 64)))
+cast-result c = omega (arith, place-trailing 64 _ _ (c .bits .ensures), trailing-le 64 (getD (c .before .before .before .before .before .args .words .now) (c .before .before .before .before .before .args .from / 64) 0 / 2 ^ (c .before .before .before .before .before .args .from % 64)))
 
 add-result : tie.Need-add-result
-add-result c = omega (arith, next-here 64 (c .before .before .before .before .args .words .now) (c .before .before .before .before .args .from) (omega arith) (c .before .before .if1 .left) (c .before .shared-slice-known2 .given (c .before .before .before .before .args .from / 64) .fits) (c .if2 .left), next-within 64 (c .before .before .before .before .args .words .now) (c .before .before .before .before .args .from) (omega arith))
+add-result c =
+    let ws = c .before .before .before .before .before .args .words .now in
+    let from = c .before .before .before .before .before .args .from in
+    omega (arith, place-trailing 64 _ _ (c .bits .ensures), next-here 64 ws from (omega arith) (c .before .before .before .if1 .left) (c .before .before .shared-slice-known2 .given (from / 64) .fits) (c .before .if2 .left), next-within 64 ws from (omega arith))
 
 returns-3 : tie.Need-returns-3
-returns-3 c = sym (next-here 64 (c .before .before .before .before .args .words .now) (c .before .before .before .before .args .from) (omega arith) (c .before .before .if1 .left) (c .before .shared-slice-known2 .given (c .before .before .before .before .args .from / 64) .fits) (c .if2 .left))
+returns-3 c =
+    let from = c .before .before .before .before .before .args .from in
+    rw (place-trailing 64 _ _ (c .bits .ensures)) (sym (next-here 64 (c .before .before .before .before .before .args .words .now) from (omega arith) (c .before .before .before .if1 .left) (c .before .before .shared-slice-known2 .given (from / 64) .fits) (c .before .if2 .left)))
 
 pub next-spec : {M : Type 1} → statement M
 next-spec =
@@ -49,6 +58,7 @@ next-spec =
     add-next-word
     next-word-requires
     returns-2
+    bits-requires
     cast-result
     add-result
     returns-3)
