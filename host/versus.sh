@@ -11,7 +11,7 @@
 set -euo pipefail
 usage="usage: versus.sh OLD NEW [SECONDS [WORD]]"
 old=${1:?$usage} new=${2:?$usage} seconds=${3:-0.4}
-for shape in ${4:-chain wide heads load deep late}; do
+for shape in ${4:-chain wide heads load deep late forks}; do
     for nodes in 1024 16384 262144; do
         for _ in 1 2 3; do
             "$old" "$seconds" "$shape" "$nodes" | sed -n '3,$s/^/old /p'

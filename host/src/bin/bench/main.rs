@@ -27,7 +27,7 @@ use std::time::Duration;
 
 const USAGE: &str = "usage: bench [SECONDS [WORD [NODES]]]\n\
      SECONDS: the least time of a measure, above 0 and at most 60\n\
-     WORD: chain, wide, heads, load, deep, late or growth; all if none is given\n\
+     WORD: chain, wide, heads, load, deep, late, forks or growth; all if none is given\n\
      NODES: 1024, 16384 or 262144, not with growth; all three if none is given";
 
 /// About 1,000 nodes, 16,000, and the most.
@@ -44,13 +44,14 @@ const PASSES: usize = 3;
 
 type Shape = (&'static str, fn(usize) -> Input);
 
-const SHAPES: [Shape; 6] = [
+const SHAPES: [Shape; 7] = [
     ("chain", shapes::chain),
     ("wide", shapes::wide),
     ("heads", shapes::heads),
     ("load", shapes::load_of),
     ("deep", shapes::deep),
     ("late", shapes::late),
+    ("forks", shapes::forks),
 ];
 
 const GROWING: [Shape; 3] = [

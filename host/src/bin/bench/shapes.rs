@@ -200,6 +200,15 @@ pub fn deep(nodes: usize) -> Input {
 /// 64 atoms by choice, each under a tower of negations, one tower after the other, and behind them
 /// each atom's node again: a change goes through its tower while a node at the theory's end waits.
 pub fn late(nodes: usize) -> Input {
+    towers(nodes, 1)
+}
+
+/// The same with two negations of each node of a tower; on the second one the tower goes on.
+pub fn forks(nodes: usize) -> Input {
+    towers(nodes, 2)
+}
+
+fn towers(nodes: usize, negations: usize) -> Input {
     const ATOMS: u32 = 64;
     let (mut drawing, falsum) = atoms_first(ATOMS as usize);
     for atom in 0..ATOMS {
@@ -208,8 +217,11 @@ pub fn late(nodes: usize) -> Input {
     let rest = nodes - drawing.nodes.len();
     for atom in 0..ATOMS {
         let mut top = atom;
-        for _ in 1..rest / ATOMS as usize {
-            top = drawing.push(Node::Implies(top, falsum));
+        for _ in 1..rest / ATOMS as usize / negations {
+            let below = top;
+            for _ in 0..negations {
+                top = drawing.push(Node::Implies(below, falsum));
+            }
         }
     }
     for atom in 0..ATOMS {
