@@ -46,12 +46,13 @@ no-group n q = ap (λ x. not (eqb x 0)) (⊎-elim
     (λ l. List·getD-eq-default (replicate (words32 n) 0) 0 {n = q} (omega (arith, length-replicate {A = ℕ} (words32 n) 0)))
     (below-or q (words32 n)))
 
-nothing-listed : (n : ℕ) → record { first = n; second = 0; others = noMembers n; groups = replicate (words32 n) 0 } ≡ worklistOf (λ k. false) n
+nothing-listed : (n : ℕ) → record { first = n; far = 0; farSize = 0; others = noMembers n; groups = replicate (words32 n) 0 } ≡ worklistOf (λ k. false) n
 unfolding worklistOf butLowest
 nothing-listed n = λ i.
     record {
       first = sym (first-none (λ k. false) n (worklistOf (λ k. false) n) (lists-of n (λ k. false)) (λ j l. refl)) i;
-      second = 0;
+      far = 0;
+      farSize = 0;
       others = nobody (butLowest (λ k. false) n) n (λ j. refl) i;
       groups = (no-word (filled (replicate (words32 n) 0)) n (no-group n) ∙ ap (λ l. setOf (filled l) n) (no-word (butLowest (λ k. false) n) n (λ j. refl))) i;
     }

@@ -32,14 +32,14 @@ summed t made roots producers T = planned t made (T .nodes) (T .operands) roots 
 
 -- ---- reset
 
--- the header of a held check, with counts of 0, no first node of the worklist and no second
+-- the header of a held check, with counts of 0, no first node of the worklist, and none remembered
 unfoldable pub opened : Tables → Evaluation → Evaluation
 opened T e =
     record {
       state = 1;
       stamp = T .counts .stamp;
       truths = e .truths;
-      worklist = record { first = nodeCount T; second = 0; others = record { members = e .worklist .others .members; size = 0 }; groups = e .worklist .groups };
+      worklist = record { first = nodeCount T; far = 0; farSize = 0; others = record { members = e .worklist .others .members; size = 0 }; groups = e .worklist .groups };
       support = e .support;
       candidate = e .candidate;
       missing = record { members = e .missing .members; size = 0 };
@@ -56,7 +56,8 @@ emptied T e =
       worklist =
           record {
             first = e .worklist .first;
-            second = e .worklist .second;
+            far = e .worklist .far;
+            farSize = e .worklist .farSize;
             others = record { members = replicate (words32 (nodeCount T)) 0; size = e .worklist .others .size };
             groups = replicate (words32 (nodeCount T)) 0;
           };
@@ -77,7 +78,7 @@ begun T truths candidate =
       state = 1;
       stamp = T .counts .stamp;
       truths = truths;
-      worklist = record { first = nodeCount T; second = 0; others = noMembers (nodeCount T); groups = replicate (words32 (nodeCount T)) 0 };
+      worklist = record { first = nodeCount T; far = 0; farSize = 0; others = noMembers (nodeCount T); groups = replicate (words32 (nodeCount T)) 0 };
       support = replicate (atomCount T) 0;
       candidate = candidate;
       missing = noMembers (atomCount T);

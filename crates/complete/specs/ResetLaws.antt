@@ -12,7 +12,7 @@ use Rattle.kept.specs.Tables.{Tables, atomCount, nodeCount, rootCount}
 use Rattle.kept.specs.Evaluation.{Evaluation}
 use Rattle.kept.specs.Parts.{withWorklist, withSupport, withCandidate}
 use Rattle.kept.specs.Layout.{flat, image, section, ofWords, written, worklistStart, candidateStart, missingStart, used}
-use Rattle.kept.specs.LayoutLaws.{Fits, fits-of, length-unused}
+use Rattle.kept.specs.LayoutLaws.{Fits, fits-of}
 use Rattle.words.specs.Halves.{half}
 use Rattle.kept_laws.specs.Stores.{withMembers, withOthers, lend-candidate}
 use Rattle.kept_laws.specs.Written.{written-same, written-again, length-written}
@@ -38,9 +38,9 @@ module _ (T : Tables) (ws : List ℕ) (long : used T ≤ length ws) where
   fits : Fits T e
   fits = fits-of T ws long
 
-  pub header-laid : set (set (set (set (set (set (set ws 0 1) 1 (T .counts .stamp)) 2 0) 3 0) 4 0) 5 (nodeCount T)) 6 0 ≡ written T ws (opened T e)
+  pub header-laid : set (set (set (set (set (set (set (set ws 0 1) 1 (T .counts .stamp)) 2 0) 3 0) 4 0) 5 (nodeCount T)) 6 0) 7 0 ≡ written T ws (opened T e)
   unfolding written image flat opened
-  header-laid = ap (λ w. set (set (set (set (set (set (set w 0 1) 1 (T .counts .stamp)) 2 0) 3 0) 4 0) 5 (nodeCount T)) 6 0) (sym (written-same T ws long))
+  header-laid = ap (λ w. set (set (set (set (set (set (set (set w 0 1) 1 (T .counts .stamp)) 2 0) 3 0) 4 0) 5 (nodeCount T)) 6 0) 7 0) (sym (written-same T ws long))
 
   -- the candidate's section given back as y
   pub halves-laid : (words y : List ℕ) → y ≡ tabulate (length (take (missingStart T - candidateStart T) (drop (candidateStart T) ws))) (half words)
@@ -51,7 +51,7 @@ module _ (T : Tables) (ws : List ℕ) (long : used T ≤ length ws) where
       length-part ws (candidateStart T) (missingStart T) (omega arith) (omega arith) ∙ (omega arith) in
       given-back (candidateStart T) (missingStart T) ws y (omega arith)
       ∙ ap (λ w. take (candidateStart T) w ++ (y ++ drop (missingStart T) w)) (sym (written-same T ws long))
-      ∙ lend-candidate T e fits (section T ws 1) (section T ws 9) (length-unused T ws long) y
+      ∙ lend-candidate T e fits (section T ws 8) y
       ∙ ap (λ c. written T ws (withCandidate e c (e .missing))) (p ∙ ap (λ m. tabulate m (half words)) n)
 
   -- the two cleared slices
@@ -81,7 +81,7 @@ module _ (T : Tables) (ws : List ℕ) (long : used T ≤ length ws) where
       length-part ws (worklistStart T) (candidateStart T) (omega arith) (omega arith) ∙ (omega arith) in
       given-back (worklistStart T) (candidateStart T) ws y (omega arith)
       ∙ ap₂ (λ w x. take (worklistStart T) w ++ (x ++ drop (candidateStart T) w)) (sym (written-same T ws long)) (p ∙ zeros _ (words32 (nodeCount T) ∷ atomCount T ∷ []) n)
-      ∙ lend-worklist-support T ws long e fits (replicate (words32 (nodeCount T)) 0) (replicate (atomCount T) 0)
+      ∙ lend-worklist-support T ws e fits (replicate (words32 (nodeCount T)) 0) (replicate (atomCount T) 0)
 
   -- lengths of the sections from the missing atoms on
   abbrev ends : List ℕ
@@ -99,7 +99,7 @@ module _ (T : Tables) (ws : List ℕ) (long : used T ≤ length ws) where
       length-part mid (missingStart T) (used T) (rw l long) (omega arith) ∙ (omega arith) in
       given-back (missingStart T) (used T) mid z (omega arith)
       ∙ ap₂ (λ m x. take (missingStart T) m ++ (x ++ drop (used T) m)) w (r ∙ zeros _ ends n)
-      ∙ lend-missing-groups T ws long half-emptied half-fits (replicate (words32 (atomCount T)) 0) (replicate (words32 (rootCount T)) 0) (replicate (words32 (nodeCount T)) 0)
+      ∙ lend-missing-groups T ws half-emptied half-fits (replicate (words32 (atomCount T)) 0) (replicate (words32 (rootCount T)) 0) (replicate (words32 (nodeCount T)) 0)
 
 -- the three one after the other
 module _ (T : Tables) where

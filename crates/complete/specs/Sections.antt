@@ -1,6 +1,6 @@
 -- Sections of the lent words that stand one after the other, lent as one slice and given back.
 -- Assumes nothing.
-use Prim.Native.Nat.{ℕ, _≤_, _+_}
+use Prim.Native.Nat.{ℕ, _+_}
 use native.Mathlib.Omega.{arith}
 use mathlib.Core.Path.{_≡_, refl, ap, sym, _∙_}
 use mathlib.Core.List.{List, [], _∷_, _++_, append-assoc}
@@ -10,7 +10,7 @@ use Rattle.kept.specs.Tables.{Tables}
 use Rattle.kept.specs.Evaluation.{Evaluation}
 use Rattle.kept.specs.Parts.{withWorklist, withSupport, withFalseRoots}
 use Rattle.kept.specs.Layout.{flat, header, image, section, written, worklistStart, candidateStart, missingStart, used}
-use Rattle.kept.specs.LayoutLaws.{Fits, length-unused}
+use Rattle.kept.specs.LayoutLaws.{Fits}
 use Rattle.kept_laws.specs.Stores.{withMembers, withOthers, withGroups}
 
 -- ---- parts laid end to end
@@ -52,26 +52,20 @@ flat-zeros (n ∷ ns) = sym (replicate-append-replicate {A = ℕ} n (total ns) 0
 
 -- ---- the parts of an evaluation
 
-module _ (T : Tables) (ws : List ℕ) (long : used T ≤ length ws) (e : Evaluation) (fits : Fits T e) where
-  abbrev unused : List ℕ
-  unused = section T ws 1
-
+module _ (T : Tables) (ws : List ℕ) (e : Evaluation) (fits : Fits T e) where
   abbrev rest : List ℕ
-  rest = section T ws 9
-
-  one : length unused ≡ 1
-  one = length-unused T ws long
+  rest = section T ws 8
 
   -- worklist and support; missing atoms, false roots and the worklist's groups
   pub lend-worklist-support : (y z : List ℕ) → take (worklistStart T) (written T ws e) ++ (flat (y ∷ z ∷ []) ++ drop (candidateStart T) (written T ws e))
       ≡ written T ws (withSupport (withWorklist e (withOthers (e .worklist) (withMembers (e .worklist .others) y))) z (e .missing))
   unfolding written image flat
   lend-worklist-support y z =
-      flat-between (header e ∷ unused ∷ e .truths ∷ []) (e .worklist .others .members ∷ e .support ∷ []) (y ∷ z ∷ [])
+      flat-between (header e ∷ e .truths ∷ []) (e .worklist .others .members ∷ e .support ∷ []) (y ∷ z ∷ [])
       (e .candidate ∷ e .missing .members ∷ e .falseRoots .members ∷ e .worklist .groups ∷ rest ∷ []) (worklistStart T) (candidateStart T) from to
     where
-      from : worklistStart T ≡ length (flat (header e ∷ unused ∷ e .truths ∷ []))
-      from = simp length-append (omega (arith, one, fits .truths))
+      from : worklistStart T ≡ length (flat (header e ∷ e .truths ∷ []))
+      from = simp length-append (omega (arith, fits .truths))
 
       to : candidateStart T ≡ worklistStart T + length (flat (e .worklist .others .members ∷ e .support ∷ []))
       to = simp length-append (omega (arith, fits .worklist, fits .support))
@@ -80,11 +74,11 @@ module _ (T : Tables) (ws : List ℕ) (long : used T ≤ length ws) (e : Evaluat
       ≡ written T ws (withWorklist (withFalseRoots (withSupport e (e .support) (withMembers (e .missing) x)) (withMembers (e .falseRoots) y)) (withGroups (e .worklist) z))
   unfolding written image flat
   lend-missing-groups x y z =
-      flat-between (header e ∷ unused ∷ e .truths ∷ e .worklist .others .members ∷ e .support ∷ e .candidate ∷ [])
+      flat-between (header e ∷ e .truths ∷ e .worklist .others .members ∷ e .support ∷ e .candidate ∷ [])
       (e .missing .members ∷ e .falseRoots .members ∷ e .worklist .groups ∷ []) (x ∷ y ∷ z ∷ []) (rest ∷ []) (missingStart T) (used T) from to
     where
-      from : missingStart T ≡ length (flat (header e ∷ unused ∷ e .truths ∷ e .worklist .others .members ∷ e .support ∷ e .candidate ∷ []))
-      from = simp length-append (omega (arith, one, fits .truths, fits .worklist, fits .support, fits .candidate))
+      from : missingStart T ≡ length (flat (header e ∷ e .truths ∷ e .worklist .others .members ∷ e .support ∷ e .candidate ∷ []))
+      from = simp length-append (omega (arith, fits .truths, fits .worklist, fits .support, fits .candidate))
 
       to : used T ≡ missingStart T + length (flat (e .missing .members ∷ e .falseRoots .members ∷ e .worklist .groups ∷ []))
       to = simp length-append (omega (arith, fits .missing, fits .falseRoots, fits .groups))

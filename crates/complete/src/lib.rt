@@ -61,7 +61,7 @@ fn lay_candidate(counts: Counts, candidate: &[u64], kept: &mut [u32])
     lay_halves(candidate, &mut kept[at..end]);
 }
 
-// A check is held; no missing atom, false root or node on the worklist is counted, and the worklist has no first node and no second.
+// A check is held; no missing atom, false root or node on the worklist is counted, and the worklist has no first node and remembers none.
 fn lay_header(counts: Counts, kept: &mut [u32])
     requires { ⌜ Limited counts × (usedBy counts ≤ length (now kept)) ⌝ }
     ensures { λ _. ⌜ ((T : Tables) → now (kept .exit) ≡ written (sized counts T) (now (kept .entry)) (opened (sized counts T) (ofWords (sized counts T) (now (kept .entry))))) ⌝ }
@@ -73,6 +73,7 @@ fn lay_header(counts: Counts, kept: &mut [u32])
     kept[4] = 0;
     kept[5] = counts.nodes as u32;
     kept[6] = 0;
+    kept[7] = 0;
 }
 
 // All but truth: the candidate, and nothing summarised.

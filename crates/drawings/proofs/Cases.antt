@@ -38,7 +38,7 @@ use Rattle.plan.specs.Outcome.{planned, planOutcome}
 use Rattle.kept.specs.Tabulate.{tabulate}
 use Rattle.kept.specs.SetOf.{setOf, allInserted}
 use Rattle.kept.specs.CountedSet.{countedSet, moved, withBit, withMember, lookup}
-use Rattle.kept.specs.Worklist.{behind, alone, withNode, filled, advanced, advance, soughtFilled, nextFilled, withoutFirst, butLowest, worklistOf}
+use Rattle.kept.specs.Worklist.{behind, remembering, alone, before, withNode, filled, advanced, advance, soughtFilled, farNext, nextFilled, forgotten, withoutFirst, butLowest, worklistOf}
 use Rattle.kept.specs.Tables.{operandsAt, between, listAt}
 use Rattle.kept.specs.Evaluation.{held, truth, bodyTrue, supports, support, falseRoot, summary, fresh}
 use Rattle.kept.specs.Verdict.{notModel, residual, stable, missingAtom, verdict, judged, verdictOf}
@@ -89,5 +89,5 @@ cases =
 
 -- C1 to C4, C5, C6, C7, C8 and C9
 pub cases-hold : map (λ c. shown (c .example)) cases ≡ map (λ c. c .expected) cases
-unfolding cases exampleNodes exampleOperands exampleRoots fiveNodes fiveRoots sixNodes sixRoots sevenNodes sevenRoots shown shownBy planOf checks candidatesOf front gather places count lowest rising extended bit next member inserted removed nodeAt span operandsOf limitsOf allBelow spanStart groupAdmission nodeAdmission rootAdmission firstRefusal nodesAdmission rootsAdmission admission class.joined nodeClass nodeClasses allTrue anyTrue nodeTruth nodeTruths classWords chosen eitherOrder headOf fact rule producedBy produced refusedBy supportedAt rootsSupported madeBy producers producerWords producersBefore remaining graph.removed peak depth derive only operandEdges nodeEdges bodyEdges producedEdges edgesInto edgesOf dependencies joined startOf laid laidOver readingOf packed occurrences readingNode readersOf atomNodesOf listOf built shortBuffer plan.judged derived planJudged planned planOutcome tabulate setOf allInserted countedSet moved withBit withMember lookup operandsAt between listAt held truth bodyTrue supports support falseRoot summary fresh missingAtom verdict judged verdictOf entered missingBy supportMoved rootTurned readerUpdated readersUpdated settled seen seenBy nodeSeen groupSeen stepAt step allEntered atomTurned atomUpdated walkStart walk keptWalk nodeEntry producerEntry rootEntry tablesAdmission freshResult keptResult changes isKept result flat cut image ofWords written atomsOf firstShort stamps strayBit tests cleared outcomeAt outcome worklistOf butLowest filled withNode alone soughtFilled nextFilled withoutFirst behind advance advanced
+unfolding cases exampleNodes exampleOperands exampleRoots fiveNodes fiveRoots sixNodes sixRoots sevenNodes sevenRoots shown shownBy planOf checks candidatesOf front gather places count lowest rising extended bit next member inserted removed nodeAt span operandsOf limitsOf allBelow spanStart groupAdmission nodeAdmission rootAdmission firstRefusal nodesAdmission rootsAdmission admission class.joined nodeClass nodeClasses allTrue anyTrue nodeTruth nodeTruths classWords chosen eitherOrder headOf fact rule producedBy produced refusedBy supportedAt rootsSupported madeBy producers producerWords producersBefore remaining graph.removed peak depth derive only operandEdges nodeEdges bodyEdges producedEdges edgesInto edgesOf dependencies joined startOf laid laidOver readingOf packed occurrences readingNode readersOf atomNodesOf listOf built shortBuffer plan.judged derived planJudged planned planOutcome tabulate setOf allInserted countedSet moved withBit withMember lookup operandsAt between listAt held truth bodyTrue supports support falseRoot summary fresh missingAtom verdict judged verdictOf entered missingBy supportMoved rootTurned readerUpdated readersUpdated settled seen seenBy nodeSeen groupSeen stepAt step allEntered atomTurned atomUpdated walkStart walk keptWalk nodeEntry producerEntry rootEntry tablesAdmission freshResult keptResult changes isKept result flat cut image ofWords written atomsOf firstShort stamps strayBit tests cleared outcomeAt outcome worklistOf butLowest filled withNode alone soughtFilled farNext nextFilled forgotten withoutFirst behind remembering before advance advanced
 cases-hold = refl

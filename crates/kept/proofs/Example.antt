@@ -34,7 +34,7 @@ use Rattle.readers.specs.AtomNodes.{atomNodesOf}
 use Rattle.kept.specs.Tabulate.{tabulate}
 use Rattle.kept.specs.SetOf.{setOf, allInserted}
 use Rattle.kept.specs.CountedSet.{countedSet, moved, withBit, withMember, lookup}
-use Rattle.kept.specs.Worklist.{behind, alone, withNode, filled, advanced, advance, soughtFilled, nextFilled, withoutFirst, butLowest, worklistOf}
+use Rattle.kept.specs.Worklist.{behind, remembering, alone, before, withNode, filled, advanced, advance, soughtFilled, farNext, nextFilled, forgotten, withoutFirst, butLowest, worklistOf}
 use Rattle.kept.specs.Tables.{Tables, operandsAt, between, listAt}
 use Rattle.kept.specs.Evaluation.{held, truth, bodyTrue, supports, support, falseRoot, summary, fresh}
 use Rattle.kept.specs.Verdict.{notModel, residual, stable, missingAtom, verdict, judged, verdictOf}
@@ -113,7 +113,7 @@ example : (shown
     × (outcome 64 8 exampleTables (of 7 1) beyond ≡ record { answer = refused (BadEntry 0); words = replicate 36 0 ++ (9 ∷ []) })
     × (outcome 64 8 rootless (of 7 1) heldZero ≡ record { answer = refused (BadEntry 0); words = replicate 36 0 ++ (9 ∷ []) })
     × (outcome 64 8 rootless (of 7 1) (replicate 36 0 ++ (9 ∷ [])) ≡ record { answer = refused (BadEntry 0); words = replicate 36 0 ++ (9 ∷ []) })
-unfolding shown rootless heldZero spoilt astray beyond lines of exampleTables outcome outcomeAt tests limitsOf firstShort stamps strayBit atomsOf cleared written ofWords image flat cut result isKept changes keptResult freshResult tablesAdmission nodeEntry producerEntry rootEntry firstRefusal keptWalk walkStart atomUpdated atomTurned allEntered walk step stepAt seen seenBy nodeSeen groupSeen settled readersUpdated readerUpdated rootTurned missingBy supportMoved entered behind alone withNode filled advanced advance soughtFilled nextFilled withoutFirst butLowest worklistOf verdict judged verdictOf missingAtom held truth bodyTrue supports support falseRoot summary fresh operandsAt between listAt readingOf setOf allInserted countedSet moved withBit withMember lookup tabulate member inserted removed next bit places count lowest nodeAt span operandsOf nodeTruth nodeTruths allTrue anyTrue allBelow rising extended
+unfolding shown rootless heldZero spoilt astray beyond lines of exampleTables outcome outcomeAt tests limitsOf firstShort stamps strayBit atomsOf cleared written ofWords image flat cut result isKept changes keptResult freshResult tablesAdmission nodeEntry producerEntry rootEntry firstRefusal keptWalk walkStart atomUpdated atomTurned allEntered walk step stepAt seen seenBy nodeSeen groupSeen settled readersUpdated readerUpdated rootTurned missingBy supportMoved entered behind remembering alone before withNode filled advanced advance soughtFilled farNext nextFilled forgotten withoutFirst butLowest worklistOf verdict judged verdictOf missingAtom held truth bodyTrue supports support falseRoot summary fresh operandsAt between listAt readingOf setOf allInserted countedSet moved withBit withMember lookup tabulate member inserted removed next bit places count lowest nodeAt span operandsOf nodeTruth nodeTruths allTrue anyTrue allBelow rising extended
 example = (refl, refl, refl, refl, refl, refl, refl)
 
 -- ---- the tables are planned

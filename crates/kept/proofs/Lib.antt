@@ -4,3 +4,4 @@ pub mod Decides
 pub mod Removable
 pub mod Series
 pub mod Example
+pub mod Remembered

@@ -50,11 +50,8 @@ module _ (T : Tables) (plan : PlannedTables T) where
     fits none = fits-zeroed T
     fits (some c) = fits-fresh T (atomsOf T c)
 
-    one : length {A = ℕ} (replicate 1 0) ≡ 1
-    one = length-replicate {A = ℕ} 1 0
-
     state : Option Candidate → List ℕ
-    state o = image (evaluationOf o) (replicate 1 0) (behind T past)
+    state o = image (evaluationOf o) (behind T past)
 
     -- the words' length, always the same
     size : ℕ
@@ -62,7 +59,7 @@ module _ (T : Tables) (plan : PlannedTables T) where
 
     length-state : (o : Option Candidate) → length (state o) ≡ size
     unfolding state size
-    length-state o = length-image T (evaluationOf o) (fits o) (replicate 1 0) (behind T past) one
+    length-state o = length-image T (evaluationOf o) (fits o) (behind T past)
 
     zero-state : zeroedWords T past ≡ state none
     unfolding state
@@ -93,9 +90,9 @@ module _ (T : Tables) (plan : PlannedTables T) where
     outcome-passed o c e =
         ap (λ n. outcomeAt floor divisor T c (state o) (tests T c n)) (length-state o)
         ∙ ap (outcomeAt floor divisor T c (state o)) e
-        ∙ ap (λ d. concluded T (state o) (result floor divisor T (atomsOf T c) d)) (of-image T (evaluationOf o) (fits o) (replicate 1 0) (behind T past) one)
+        ∙ ap (λ d. concluded T (state o) (result floor divisor T (atomsOf T c) d)) (of-image T (evaluationOf o) (fits o) (behind T past))
         ∙ ap (concluded T (state o)) (result-state o c (atoms-within T c size e))
-        ∙ ap (λ ws. record { answer = accepted (verdict T (atomsOf T c)) (gone o c); words = ws }) (written-image T (evaluationOf o) (fits o) (replicate 1 0) (behind T past) one (fresh T (atomsOf T c)))
+        ∙ ap (λ ws. record { answer = accepted (verdict T (atomsOf T c)) (gone o c); words = ws }) (written-image T (evaluationOf o) (fits o) (behind T past) (fresh T (atomsOf T c)))
 
     outcome-refused : (o : Option Candidate) (c : Candidate) (r : Refusal) → tests T c size ≡ Refused r
         → outcome floor divisor T c (state o) ≡ record { answer = refused r; words = state o }
@@ -105,12 +102,12 @@ module _ (T : Tables) (plan : PlannedTables T) where
 
     walk-state : (d c : Candidate) → keptWalk T (atomsOf T c) (ofWords T (state (some d))) ≡ keptWalk T (atomsOf T c) (fresh T (atomsOf T d))
     unfolding state
-    walk-state d c = ap (keptWalk T (atomsOf T c)) (of-image T (evaluationOf (some d)) (fits (some d)) (replicate 1 0) (behind T past) one)
+    walk-state d c = ap (keptWalk T (atomsOf T c)) (of-image T (evaluationOf (some d)) (fits (some d)) (behind T past))
 
     -- whether the check is a kept one goes by the evaluation that the words hold
     kept-state : (o : Option Candidate) (c : Candidate) → isKept floor divisor T (atomsOf T c) (ofWords T (state o)) ≡ isKept floor divisor T (atomsOf T c) (evaluationOf o)
     unfolding state
-    kept-state o c = ap (isKept floor divisor T (atomsOf T c)) (of-image T (evaluationOf o) (fits o) (replicate 1 0) (behind T past) one)
+    kept-state o c = ap (isKept floor divisor T (atomsOf T c)) (of-image T (evaluationOf o) (fits o) (behind T past))
 
     gone-over : (o : Option Candidate) (c : Candidate) → Within (atomCount T) (atomsOf T c) → GoneOver floor divisor T o (state o) c (gone o c)
     unfolding gone goneOver

@@ -43,7 +43,7 @@ zeroed T =
       state = 0;
       stamp = 0;
       truths = replicate (nodeCount T) 0;
-      worklist = record { first = 0; second = 0; others = noMembers (nodeCount T); groups = replicate (words32 (nodeCount T)) 0 };
+      worklist = record { first = 0; far = 0; farSize = 0; others = noMembers (nodeCount T); groups = replicate (words32 (nodeCount T)) 0 };
       support = replicate (atomCount T) 0;
       candidate = replicate (words32 (atomCount T)) 0;
       missing = noMembers (atomCount T);

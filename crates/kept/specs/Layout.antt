@@ -16,21 +16,22 @@ unfoldable pub cut : List ℕ → List ℕ → List (List ℕ)
 cut [] ws = ws ∷ []
 cut (n ∷ ns) ws = take n ws ∷ cut ns (drop n ws)
 
--- a header of 8 words, the last one unused; then truth, worklist, support, candidate, missing atoms, false roots, groups of the worklist; the rest is unused
+-- a header of 8 words; then truth, worklist, support, candidate, missing atoms, false roots, groups of the worklist; the rest is unused
 abbrev pub lengths : Tables → List ℕ
 lengths T =
-    7 ∷ 1 ∷ nodeCount T ∷ words32 (nodeCount T) ∷ atomCount T ∷ words32 (atomCount T) ∷ words32 (atomCount T) ∷ words32 (rootCount T) ∷ words32 (nodeCount T) ∷ []
+    8 ∷ nodeCount T ∷ words32 (nodeCount T) ∷ atomCount T ∷ words32 (atomCount T) ∷ words32 (atomCount T) ∷ words32 (rootCount T) ∷ words32 (nodeCount T) ∷ []
 
 abbrev pub header : Evaluation → List ℕ
-header e = e .state ∷ e .stamp ∷ e .missing .size ∷ e .falseRoots .size ∷ e .worklist .others .size ∷ e .worklist .first ∷ e .worklist .second ∷ []
+header e =
+    e .state ∷ e .stamp ∷ e .missing .size ∷ e .falseRoots .size ∷ e .worklist .others .size ∷ e .worklist .first ∷ e .worklist .far ∷ e .worklist .farSize ∷ []
 
-abbrev pub parts : Evaluation → List ℕ → List ℕ → List (List ℕ)
-parts e unused rest =
-    header e ∷ unused ∷ e .truths ∷ e .worklist .others .members ∷ e .support ∷ e .candidate ∷ e .missing .members ∷ e .falseRoots .members ∷ e .worklist .groups ∷ rest ∷ []
+abbrev pub parts : Evaluation → List ℕ → List (List ℕ)
+parts e rest =
+    header e ∷ e .truths ∷ e .worklist .others .members ∷ e .support ∷ e .candidate ∷ e .missing .members ∷ e .falseRoots .members ∷ e .worklist .groups ∷ rest ∷ []
 
 -- the words of an evaluation
-unfoldable pub image : Evaluation → List ℕ → List ℕ → List ℕ
-image e unused rest = flat (parts e unused rest)
+unfoldable pub image : Evaluation → List ℕ → List ℕ
+image e rest = flat (parts e rest)
 
 -- the evaluation that lent words hold
 abbrev pub section : Tables → List ℕ → ℕ → List ℕ
@@ -41,17 +42,24 @@ ofWords T ws =
     record {
       state = getD ws 0 0;
       stamp = getD ws 1 0;
-      truths = section T ws 2;
-      worklist = record { first = getD ws 5 0; second = getD ws 6 0; others = record { members = section T ws 3; size = getD ws 4 0 }; groups = section T ws 8 };
-      support = section T ws 4;
-      candidate = section T ws 5;
-      missing = record { members = section T ws 6; size = getD ws 2 0 };
-      falseRoots = record { members = section T ws 7; size = getD ws 3 0 };
+      truths = section T ws 1;
+      worklist =
+          record {
+            first = getD ws 5 0;
+            far = getD ws 6 0;
+            farSize = getD ws 7 0;
+            others = record { members = section T ws 2; size = getD ws 4 0 };
+            groups = section T ws 7;
+          };
+      support = section T ws 3;
+      candidate = section T ws 4;
+      missing = record { members = section T ws 5; size = getD ws 2 0 };
+      falseRoots = record { members = section T ws 6; size = getD ws 3 0 };
     }
 
 -- the words with another evaluation in the place of theirs
 unfoldable pub written : Tables → List ℕ → Evaluation → List ℕ
-written T ws e = image e (section T ws 1) (section T ws 9)
+written T ws e = image e (section T ws 8)
 
 -- where each section starts
 abbrev pub truthsStart : ℕ

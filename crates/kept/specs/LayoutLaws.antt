@@ -56,19 +56,19 @@ pub room : (T : Tables) → used T ≤ listed T
 room T = omega arith
 
 -- the rest of any words
-pub section-rest : (T : Tables) (ws : List ℕ) → section T ws 9 ≡ drop (used T) ws
+pub section-rest : (T : Tables) (ws : List ℕ) → section T ws 8 ≡ drop (used T) ws
 unfolding cut
 section-rest T ws = simp drop-drop
 
-module _ (T : Tables) (e : Evaluation) (fits : Fits T e) (unused rest : List ℕ) (one : length unused ≡ 1) where
+module _ (T : Tables) (e : Evaluation) (fits : Fits T e) (rest : List ℕ) where
   abbrev ps : List (List ℕ)
-  ps = parts e unused rest
+  ps = parts e rest
 
-  cut-image : cut (lengths T) (image e unused rest) ≡ ps
+  cut-image : cut (lengths T) (image e rest) ≡ ps
   unfolding image
-  cut-image = cut-flat (lengths T) ps (refl, (one, (fits .truths, (fits .worklist, (fits .support, (fits .candidate, (fits .missing, (fits .falseRoots, (fits .groups, tt)))))))))
+  cut-image = cut-flat (lengths T) ps (refl, (fits .truths, (fits .worklist, (fits .support, (fits .candidate, (fits .missing, (fits .falseRoots, (fits .groups, tt))))))))
 
-  pub of-image : ofWords T (image e unused rest) ≡ e
+  pub of-image : ofWords T (image e rest) ≡ e
   unfolding ofWords image flat
   of-image = ap (λ c. built c) cut-image
     where
@@ -77,32 +77,39 @@ module _ (T : Tables) (e : Evaluation) (fits : Fits T e) (unused rest : List ℕ
           record {
             state = e .state;
             stamp = e .stamp;
-            truths = getD c 2 [];
-            worklist = record { first = e .worklist .first; second = e .worklist .second; others = record { members = getD c 3 []; size = e .worklist .others .size }; groups = getD c 8 [] };
-            support = getD c 4 [];
-            candidate = getD c 5 [];
-            missing = record { members = getD c 6 []; size = e .missing .size };
-            falseRoots = record { members = getD c 7 []; size = e .falseRoots .size };
+            truths = getD c 1 [];
+            worklist =
+                record {
+                  first = e .worklist .first;
+                  far = e .worklist .far;
+                  farSize = e .worklist .farSize;
+                  others = record { members = getD c 2 []; size = e .worklist .others .size };
+                  groups = getD c 7 [];
+                };
+            support = getD c 3 [];
+            candidate = getD c 4 [];
+            missing = record { members = getD c 5 []; size = e .missing .size };
+            falseRoots = record { members = getD c 6 []; size = e .falseRoots .size };
           }
 
   -- writing another evaluation over it
-  pub written-image : (d : Evaluation) → written T (image e unused rest) d ≡ image d unused rest
+  pub written-image : (d : Evaluation) → written T (image e rest) d ≡ image d rest
   unfolding written
-  written-image d = ap₂ (image d) (ap (λ c. getD c 1 []) cut-image) (ap (λ c. getD c 9 []) cut-image)
+  written-image d = ap (image d) (ap (λ c. getD c 8 []) cut-image)
 
   -- what is behind the used words
-  pub behind-image : drop (used T) (image e unused rest) ≡ rest
-  behind-image = sym (section-rest T (image e unused rest)) ∙ ap (λ c. getD c 9 []) cut-image
+  pub behind-image : drop (used T) (image e rest) ≡ rest
+  behind-image = sym (section-rest T (image e rest)) ∙ ap (λ c. getD c 8 []) cut-image
 
-  pub length-image : length (image e unused rest) ≡ used T + length rest
+  pub length-image : length (image e rest) ≡ used T + length rest
   unfolding image flat
   length-image =
-      simp length-append (omega (arith, one, fits .truths, fits .worklist, fits .support, fits .candidate, fits .missing, fits .falseRoots, fits .groups))
+      simp length-append (omega (arith, fits .truths, fits .worklist, fits .support, fits .candidate, fits .missing, fits .falseRoots, fits .groups))
 
 -- ---- any words are the image of an evaluation
 
 module _ (T : Tables) (ws : List ℕ) (long : used T ≤ length ws) where
-  first : (xs : List ℕ) → 7 ≤ length xs → getD xs 0 0 ∷ getD xs 1 0 ∷ getD xs 2 0 ∷ getD xs 3 0 ∷ getD xs 4 0 ∷ getD xs 5 0 ∷ getD xs 6 0 ∷ [] ≡ take 7 xs
+  first : (xs : List ℕ) → 8 ≤ length xs → getD xs 0 0 ∷ getD xs 1 0 ∷ getD xs 2 0 ∷ getD xs 3 0 ∷ getD xs 4 0 ∷ getD xs 5 0 ∷ getD xs 6 0 ∷ getD xs 7 0 ∷ [] ≡ take 8 xs
   first [] l = absurd (omega arith)
   first (a ∷ []) l = absurd (omega arith)
   first (a ∷ b ∷ []) l = absurd (omega arith)
@@ -110,23 +117,20 @@ module _ (T : Tables) (ws : List ℕ) (long : used T ≤ length ws) where
   first (a ∷ b ∷ c ∷ d ∷ []) l = absurd (omega arith)
   first (a ∷ b ∷ c ∷ d ∷ e ∷ []) l = absurd (omega arith)
   first (a ∷ b ∷ c ∷ d ∷ e ∷ f ∷ []) l = absurd (omega arith)
-  first (a ∷ b ∷ c ∷ d ∷ e ∷ f ∷ g ∷ xs) l = refl
+  first (a ∷ b ∷ c ∷ d ∷ e ∷ f ∷ g ∷ []) l = absurd (omega arith)
+  first (a ∷ b ∷ c ∷ d ∷ e ∷ f ∷ g ∷ h ∷ xs) l = refl
 
-  pub image-of : image (ofWords T ws) (section T ws 1) (section T ws 9) ≡ ws
+  pub image-of : image (ofWords T ws) (section T ws 8) ≡ ws
   unfolding image ofWords cut flat
   image-of =
-      ap (λ h. h ++ flat (cut (1 ∷ nodeCount T ∷ words32 (nodeCount T) ∷ atomCount T ∷ words32 (atomCount T) ∷ words32 (atomCount T) ∷ words32 (rootCount T) ∷ words32 (nodeCount T) ∷ []) (drop 7 ws))) (first ws (omega arith))
+      ap (λ h. h ++ flat (cut (nodeCount T ∷ words32 (nodeCount T) ∷ atomCount T ∷ words32 (atomCount T) ∷ words32 (atomCount T) ∷ words32 (rootCount T) ∷ words32 (nodeCount T) ∷ []) (drop 8 ws))) (first ws (omega arith))
       ∙ flat-cut (lengths T) ws
-
-  pub length-unused : length (section T ws 1) ≡ 1
-  unfolding cut
-  length-unused = length-take-le 1 (drop 7 ws) (simp length-drop (omega arith))
 
   pub fits-of : Fits T (ofWords T ws)
   unfolding ofWords cut
   fits-of =
       record {
-        truths = length-take-le (nodeCount T) _ (simp (drop-drop, length-drop) (omega arith));
+        truths = length-take-le (nodeCount T) _ (simp length-drop (omega arith));
         worklist = length-take-le (words32 (nodeCount T)) _ (simp (drop-drop, length-drop) (omega arith));
         support = length-take-le (atomCount T) _ (simp (drop-drop, length-drop) (omega arith));
         candidate = length-take-le (words32 (atomCount T)) _ (simp (drop-drop, length-drop) (omega arith));
@@ -183,7 +187,7 @@ all-zeros (n ∷ ns) ws = ap (λ l. replicate n 0 ++ l) (all-zeros ns ws) ∙ ze
 abbrev pub behind : Tables → List ℕ → List ℕ
 behind T past = replicate (listed T - used T) 0 ++ past
 
-pub zero-image : (T : Tables) (past : List ℕ) → image (zeroed T) (replicate 1 0) (behind T past) ≡ replicate (listed T) 0 ++ past
+pub zero-image : (T : Tables) (past : List ℕ) → image (zeroed T) (behind T past) ≡ replicate (listed T) 0 ++ past
 unfolding image flat zeroed
 zero-image T past =
     ap (zerosFor (lengths T)) (append-nil (behind T past))

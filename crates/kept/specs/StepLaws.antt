@@ -20,8 +20,8 @@ use Rattle.words.specs.Changed.{unlike}
 use Rattle.kept.specs.Tabulate.{updated, updated-same}
 use Rattle.kept.specs.CountedSet.{andThen}
 use Rattle.kept.specs.CountedSetLaws.{unlike-false, unlike-true}
-use Rattle.kept.specs.Worklist.{Worklist, withoutFirst, worklistOf, Lists}
-use Rattle.kept.specs.WorklistLaws.{lists-agree, lists-of, first-is, first-left}
+use Rattle.kept.specs.Worklist.{Worklist, Lists}
+use Rattle.kept.specs.WorklistLaws.{lists-agree, first-is, first-left}
 use Rattle.kept.specs.Tables.{Tables, nodeCount, operandsAt, sound, readersAt}
 use Rattle.kept.specs.Evaluation.{Evaluation, truthAt, present, truthWord, held, truth, support, falseRoot, summary}
 use Rattle.kept.specs.Parts.{withTruths}
@@ -71,13 +71,10 @@ module _ (T : Tables) (good : Consistent T) (v w c : ℕ → Bool) (L : Worklist
       (λ a i. present-held T v L (support T v) c (falseRoot T v) a (atom-lower T k a (good .node k l) i))
       (each-map (λ o. o < k) (λ o. truthAt start o ≡ v o) (operandsAt T k) (λ o i. truth-held T v L (support T v) c (falseRoot T v) o (omega arith)) (operands-lower T k (good .node k l))))
 
-  module _ (k : ℕ) (t : Bool) (l : k < nodeCount T) where
+  -- the worklist without node k
+  module _ (k : ℕ) (t : Bool) (l : k < nodeCount T) (rest : Worklist) (without : Lists (nodeCount T) (updated w k false) rest) where
     abbrev off : ℕ → Bool
     off = updated w k false
-
-    -- the worklist without it
-    abbrev rest : Worklist
-    rest = worklistOf off (nodeCount T)
 
     abbrev old : Evaluation
     old = held T v rest (support T v) c (falseRoot T v)
@@ -93,7 +90,7 @@ module _ (T : Tables) (good : Consistent T) (v w c : ℕ → Bool) (L : Worklist
         go : (b : Bool) → unlike (v k) t ≡ b
             → (L′ : Worklist) × Lists (nodeCount T) (λ j. off j || b && among k (operandsAt T j)) L′ × (settled T k t old ≡ took k (held T u L′ (support T u) c (falseRoot T u)))
         go true e =
-            let r = readers-told T good k t v (unlike-true (v k) t e) off rest c (lists-of (nodeCount T) off) in (
+            let r = readers-told T good k t v (unlike-true (v k) t e) off rest c without in (
               r .0,
               lists-agree (nodeCount T) (λ j. off j || ltb j (nodeCount T) && among k (operandsAt T j)) (λ j. off j || true && among k (operandsAt T j)) (r .0) (λ j i. rw (lt-ltb j (nodeCount T) i)) (r .2),
               rw (truth-held T v rest (support T v) c (falseRoot T v) k l, e, good .readers k l, truths-held T v rest (support T v) c (falseRoot T v) k t, r .1),
@@ -101,26 +98,18 @@ module _ (T : Tables) (good : Consistent T) (v w c : ℕ → Bool) (L : Worklist
         go false e =
             let same : u ≡ v = fun-ext (updated-same v k t (unlike-false (v k) t e)) in (
               rest,
-              lists-agree (nodeCount T) off (λ j. off j || false && among k (operandsAt T j)) rest (λ j i. sym (or-false (off j))) (lists-of (nodeCount T) off),
+              lists-agree (nodeCount T) off (λ j. off j || false && among k (operandsAt T j)) rest (λ j i. sym (or-false (off j))) without,
               rw (truth-held T v rest (support T v) c (falseRoot T v) k l, e, same),
             )
-
-    -- node k is the first, and leaves the worklist
-    module _ (m : w k ≡ true) (h : (j : ℕ) → j < k → w j ≡ false) where
-      first-held : start .worklist .first ≡ k
-      unfolding held
-      first-held = first-is w (nodeCount T) k L x l m h
-
-      off-held : settledFrom T k start (some t) (withoutFirst (nodeCount T) (start .worklist)) ≡ settled T k t old
-      unfolding held
-      off-held = rw (first-left w (nodeCount T) k L x l m h)
 
   -- a step takes the lowest node of the worklist and gives it its truth
   pub step-summary : (k : ℕ) → k < nodeCount T → w k ≡ true → ((j : ℕ) → j < k → w j ≡ false)
       → (L′ : Worklist) × Lists (nodeCount T) (waitingAfter T v w k (truthBy T c v k)) L′
       × (step T (summary T v L c) ≡ took k (summary T (updated v k (truthBy T c v k)) L′ c))
-  unfolding step stepAt summary
+  unfolding step stepAt summary held
   step-summary k l m h =
       let t = truthBy T c v k in
-      let r = settled-held k t l in
-      (r .0, r .1, ap (stepAt T start) (first-held k t l m h) ∙ rw (lt-ltb k (nodeCount T) l, seen-held k l) (off-held k t l m h ∙ r .2))
+      let first = first-is w (nodeCount T) k L x l m h in
+      let f = first-left w (nodeCount T) k L x l m h in
+      let r = settled-held k t l (f .0) (f .2) in
+      (r .0, r .1, ap (stepAt T start) first ∙ rw (lt-ltb k (nodeCount T) l, seen-held k l, f .1) (r .2))

@@ -2,8 +2,8 @@
 -- Assumes nothing.
 use Prim.Native.Nat.{ℕ, _+_, _-_, _*_, _/_, _<_, _≤_}
 use native.Mathlib.Omega.{arith}
-use mathlib.Core.Path.{_≡_, refl, ap, sym, _∙_, fun-ext, subst}
-use mathlib.Core.Logic.{_⊎_, inl, inr, ⊎-elim}
+use mathlib.Core.Path.{_≡_, refl, ap, ap₂, sym, _∙_, fun-ext, subst}
+use mathlib.Core.Logic.{⊎-elim}
 use mathlib.Core.Bool.{Bool, true, false, not, cond, _&&_, and-false, true≢false}
 use mathlib.Core.List.{List}
 use mathlib.Core.Option.{some}
@@ -12,9 +12,9 @@ use lib.Count.{trailingZeros}
 use lib.Dec.{eqb, ltb}
 use lib.ListN.{getD}
 use lib.Seq.{getD-set-other}
-use borrow.Author.Tests.{eq-eqb, ne-eqb, lt-ltb, le-ltb}
-use Rattle.base.specs.Tests.{and-true, equal-or, below-or}
-use Rattle.base.specs.Places.{count, count-none, lowest, Lowest, lowest-is, lowest-only}
+use borrow.Author.Tests.{eqb-true, eq-eqb, ne-eqb, ltb-true, lt-ltb, le-ltb}
+use Rattle.base.specs.Tests.{both-left, both-right, and-true, equal-or, below-or}
+use Rattle.base.specs.Places.{count, count-split, count-agree, count-none, count-le, count-less, lowest, Lowest, lowest-is, lowest-only}
 use Rattle.words.specs.Bit.{bit}
 use Rattle.words.specs.BitLaws.{trailing-below, trailing-set}
 use Rattle.words.specs.Sets.{member, inserted, removed}
@@ -25,23 +25,49 @@ use Rattle.kept.specs.SetOf.{words32, setOf}
 use Rattle.kept.specs.SetOfLaws.{small-setOf, member-setOf, member-below, setOf-agree, setOf-inserted, setOf-removed, next-found}
 use Rattle.kept.specs.CountedSet.{countedSet, withBit}
 use Rattle.kept.specs.CountedSetLaws.{count-more, count-zero, counted-agree, bit-set, member-set}
-use Rattle.kept.specs.Worklist.{Worklist, withSecond, behind, alone, withNode, filled, advanced, advance, soughtFilled, nextFilled, withoutFirst, butLowest, worklistOf, Known, Lists}
+use Rattle.kept.specs.Worklist.{Worklist, withFar, behind, remembering, alone, before, withNode, filled, advanced, advance, soughtFilled, farNext, nextFilled, forgotten, withoutFirst, butLowest, worklistOf, Ahead, Remembers, Lists}
 
--- ---- a worklist by its first node, what is known of the second, and the test of the others
+-- ---- a worklist by its first node, what it remembers, and the test of the others
 
-unfoldable listed : ℕ → ℕ → (ℕ → Bool) → ℕ → Worklist
-listed f s r n = record { first = f; second = s; others = countedSet r n; groups = setOf (filled (setOf r n)) n }
+unfoldable listed : ℕ → ℕ → ℕ → (ℕ → Bool) → ℕ → Worklist
+listed f a s r n = record { first = f; far = a; farSize = s; others = countedSet r n; groups = setOf (filled (setOf r n)) n }
 
-listed-same : (f s : ℕ) (r r′ : ℕ → Bool) (n : ℕ) → ((j : ℕ) → j < n → r j ≡ r′ j) → listed f s r n ≡ listed f s r′ n
+listed-same : (f a s : ℕ) (r r′ : ℕ → Bool) (n : ℕ) → ((j : ℕ) → j < n → r j ≡ r′ j) → listed f a s r n ≡ listed f a s r′ n
 unfolding listed
-listed-same f s r r′ n h = λ i. record { first = f; second = s; others = counted-agree r r′ n h i; groups = setOf (filled (setOf-agree r r′ n h i)) n }
+listed-same f a s r r′ n h =
+    λ i. record { first = f; far = a; farSize = s; others = counted-agree r r′ n h i; groups = setOf (filled (setOf-agree r r′ n h i)) n }
 
 -- f is the lowest place of w, and r holds at the others
-listed-is : (w : ℕ → Bool) (n f s : ℕ) (r : ℕ → Bool) → Lowest w 0 n f → ((j : ℕ) → j < n → r j ≡ w j && not (eqb j f)) → listed f s r n ≡ withSecond (worklistOf w n) s
+listed-is : (w : ℕ → Bool) (n f a s : ℕ) (r : ℕ → Bool) → Lowest w 0 n f → ((j : ℕ) → j < n → r j ≡ w j && not (eqb j f)) → listed f a s r n ≡ withFar (worklistOf w n) a s
 unfolding worklistOf butLowest listed
-listed-is w n f s r l h =
+listed-is w n f a s r l h =
     let e : f ≡ lowest w 0 n = lowest-only w 0 n f l in
-    listed-same f s r (λ j. w j && not (eqb j f)) n h ∙ ap (λ x. listed x s (λ j. w j && not (eqb j x)) n) e
+    listed-same f a s r (λ j. w j && not (eqb j f)) n h ∙ ap (λ x. listed x a s (λ j. w j && not (eqb j x)) n) e
+
+-- ---- what is remembered
+
+-- more of the others, as far as the node remembered is ahead
+ahead-more : (n f f′ a s : ℕ) (r r′ : ℕ → Bool) → (f′ < a → f < a) → (f′ < a → (j : ℕ) → a ≤ j → r j ≡ true → r′ j ≡ true) → Ahead n f a s r → Ahead n f′ a s r′
+ahead-more n f f′ a s r r′ up more x l =
+    let p = x (up l) in
+    (p .0, more l a (omega arith) (p .1), omega (arith, p .2, count-le r r′ a (n - a) (λ k i j. more l k i)))
+
+remembers-same : (n f a s : ℕ) (r r′ : ℕ → Bool) → ((j : ℕ) → j < n → r j ≡ r′ j) → Remembers n f a s r → Remembers n f a s r′
+remembers-same n f a s r r′ h x = (
+  (λ l.
+      let p = x .0 l in
+      (p .0, sym (h a (p .0)) ∙ p .1, omega (arith, p .2, count-agree r r′ a (n - a) (λ k i j. h k (omega (arith, p .0)))))),
+  x .1,
+  x .2,
+)
+
+lists-is : (w : ℕ → Bool) (n f a s : ℕ) (r : ℕ → Bool) → Lowest w 0 n f → ((j : ℕ) → j < n → r j ≡ w j && not (eqb j f)) → Remembers n f a s r
+    → Lists n w (listed f a s r n)
+unfolding listed butLowest
+lists-is w n f a s r l h x = record {
+  listed = listed-is w n f a s r l h;
+  remembers = subst (λ y. Remembers n y a s (λ j. w j && not (eqb j y))) (lowest-only w 0 n f l) (remembers-same n f a s r (λ j. w j && not (eqb j f)) h x);
+}
 
 without : (w : ℕ → Bool) (k j : ℕ) → updated w k false j ≡ w j && not (eqb j k)
 without w k =
@@ -110,33 +136,29 @@ module _ (r : ℕ → Bool) (n m : ℕ) (l : m < n) where
           ∙ filled-changed false true (sym p)
       go false p = setOf-removed (filled (setOf r n)) n (m / 32) (omega arith) ∙ filled-changed false false (sym p)
 
-  behind-set : (f s t : ℕ) → behind n (listed f s r n) m t ≡ some (listed f t (updated r m true) n)
+  behind-set : (f a s : ℕ) → behind n (listed f a s r n) m ≡ some (listed f a s (updated r m true) n)
   unfolding behind listed
-  behind-set f s t = rw (member-set r n m true l, groups-in)
+  behind-set f a s = rw (member-set r n m true l, groups-in)
 
 -- ---- tests that agree, the first
 
-worklist-same : (w w′ : ℕ → Bool) (n : ℕ) → ((k : ℕ) → k < n → w k ≡ w′ k) → (s : ℕ) → withSecond (worklistOf w n) s ≡ withSecond (worklistOf w′ n) s
-unfolding butLowest
-worklist-same w w′ n h s =
-    sym (listed-is w n (lowest w 0 n) s (butLowest w n) l (λ j i. refl))
-    ∙ listed-is w′ n (lowest w 0 n) s (butLowest w n) (record {
+pub lists-agree : (n : ℕ) (w w′ : ℕ → Bool) (L : Worklist) → ((k : ℕ) → k < n → w k ≡ w′ k) → Lists n w L → Lists n w′ L
+unfolding worklistOf butLowest listed
+lists-agree n w w′ L h x =
+    subst (Lists n w′) (sym (x .listed)) (lists-is w′ n (lowest w 0 n) (L .far) (L .farSize) (butLowest w n) (record {
       from = l .from;
       within = l .within;
       before = λ k a b. sym (h k (omega (arith, l .within))) ∙ l .before k a b;
       here = λ b. sym (h (lowest w 0 n) (omega arith)) ∙ l .here b;
-    }) (λ j i. ap (λ b. b && not (eqb j (lowest w 0 n))) (h j i))
+    }) (λ j i. ap (λ b. b && not (eqb j (lowest w 0 n))) (h j i)) (x .remembers))
   where
     l : Lowest w 0 n (lowest w 0 n)
     l = lowest-is w 0 n
 
-pub lists-agree : (n : ℕ) (w w′ : ℕ → Bool) (L : Worklist) → ((k : ℕ) → k < n → w k ≡ w′ k) → Lists n w L → Lists n w′ L
-lists-agree n w w′ L h x = record { listed = x .listed ∙ worklist-same w w′ n h (L .second); known = x .known }
-
 -- the worklist of a test lists it
 pub lists-of : (n : ℕ) (w : ℕ → Bool) → Lists n w (worklistOf w n)
 unfolding worklistOf
-lists-of n w = record { listed = refl; known = inl refl }
+lists-of n w = record { listed = refl; remembers = (λ l. absurd (omega arith), λ l. refl, λ z. refl) }
 
 lowest-at : (w : ℕ → Bool) (n k : ℕ) → k < n → w k ≡ true → ((j : ℕ) → j < k → w j ≡ false) → Lowest w 0 n k
 lowest-at w n k l e h = record { from = omega arith; within = omega arith; before = λ j a b. h j b; here = λ b. e }
@@ -152,196 +174,229 @@ pub first-none : (w : ℕ → Bool) (n : ℕ) (L : Worklist) → Lists n w L →
 unfolding worklistOf
 first-none w n L x h = ap (λ y. y .first) (x .listed) ∙ sym (lowest-only w 0 n n (lowest-none w n h))
 
--- ---- what is known of the second
-
-module _ (n f s : ℕ) (r : ℕ → Bool) (kn : Known n (listed f s r n)) where
-  -- it is a place of r, or not known
-  second-place : (s ≡ 0) ⊎ (Lowest r 0 n s × (s < n))
-  unfolding listed countedSet
-  second-place = ⊎-elim (λ z. inl z) (λ p. inr (
-    record {
-      from = omega arith;
-      within = omega (arith, p .0);
-      before = λ k a b. sym (member-below r n k (omega (arith, p .0))) ∙ p .1 .before k a b;
-      here = λ b. sym (member-below r n s (p .0)) ∙ p .1 .here b;
-    },
-    p .0,
-  )) kn
-
-  second-none : ((j : ℕ) → j < n → r j ≡ false) → s ≡ 0
-  second-none h = ⊎-elim (λ z. z) (λ p. absurd (true≢false (sym (p .0 .here (omega (arith, p .1))) ∙ h s (p .1)))) second-place
-
 -- none waits
 pub lists-none : (n : ℕ) (w : ℕ → Bool) (L : Worklist) → Lists n w L → ((j : ℕ) → j < n → w j ≡ false) → L ≡ worklistOf (λ k. false) n
-unfolding worklistOf butLowest listed
+unfolding worklistOf
 lists-none n w L x h =
-    let z : L .second ≡ 0 = second-none n (lowest w 0 n) (L .second) (butLowest w n) (subst (Known n) (x .listed) (x .known)) (λ j i. rw (h j i)) in
-    x .listed ∙ worklist-same w (λ k. false) n h (L .second) ∙ ap (withSecond (worklistOf (λ k. false) n)) z
+    let y : Lists n (λ k. false) L = lists-agree n w (λ k. false) L h x in
+    let z = y .remembers .1 (omega (arith, lowest-only (λ k. false) 0 n n (lowest-none (λ k. false) n (λ j i. refl)))) in
+    y .listed ∙ ap₂ (withFar (worklistOf (λ k. false) n)) (y .remembers .2 z) z
 
 -- ---- a node enters
 
+put-more : (r : ℕ → Bool) (m j : ℕ) → r j ≡ true → updated r m true j ≡ true
+put-more r m j e = ⊎-elim (λ p. rw p (updated-here r m true)) (λ p. updated-there r m true j p ∙ e) (equal-or j m)
+
 module _ (w : ℕ → Bool) (n m f : ℕ) (r : ℕ → Bool) (l : m < n) (lf : Lowest w 0 n f) (hr : (j : ℕ) → r j ≡ w j && not (eqb j f)) where
-  -- m is behind the first
-  enters-behind : f < m → Lists n (updated w m true) (listed f 0 (updated r m true) n)
-  unfolding listed
-  enters-behind a = record {
-    listed = listed-is (updated w m true) n f 0 (updated r m true)
+  module _ (a s : ℕ) (x : Remembers n f a s r) where
+    -- m is behind the first
+    enters-behind : f < m → Lists n (updated w m true) (listed f a s (updated r m true) n)
+    enters-behind b =
+        lists-is (updated w m true) n f a s (updated r m true)
         (lowest-at (updated w m true) n f (omega arith)
         (updated-there w m true f (λ e. omega arith) ∙ lf .here (omega arith))
-        (λ j b. updated-there w m true j (λ e. omega arith) ∙ lf .before j (omega arith) b))
+        (λ j c. updated-there w m true j (λ e. omega arith) ∙ lf .before j (omega arith) c))
         (λ j i. updated-is r (λ j. updated w m true j && not (eqb j f)) m true
         (rw (updated-here w m true, ne-eqb m f (λ e. omega arith)))
-        (λ j ne. hr j ∙ rw (updated-there w m true j ne)) j);
-    known = inl refl;
-  }
+        (λ j ne. hr j ∙ rw (updated-there w m true j ne)) j)
+        (ahead-more n f f a s r (updated r m true) (λ y. y) (λ y j i. put-more r m j) (x .0), λ c. absurd (omega arith), x .2)
+
+    enters-same : m ≡ f → Lists n (updated w m true) (listed f a s r n)
+    enters-same e =
+        let same : updated w m true ≡ w = fun-ext (updated-same w m true (rw e (lf .here (omega arith)))) in
+        rw same (lists-is w n f a s r lf (λ j i. hr j) x)
 
   -- m is the new first, r′ holds at the places of w
-  enters-first : (s : ℕ) (r′ : ℕ → Bool) → m < f → ((j : ℕ) → j < n → r′ j ≡ w j) → listed m s r′ n ≡ withSecond (worklistOf (updated w m true) n) s
-  enters-first s r′ a h = listed-is (updated w m true) n m s r′
+  enters-first : (a s : ℕ) (r′ : ℕ → Bool) → m < f → ((j : ℕ) → j < n → r′ j ≡ w j) → Ahead n m a s r′ → (s ≡ 0 → a ≡ 0)
+      → Lists n (updated w m true) (listed m a s r′ n)
+  enters-first a s r′ b h x z =
+      lists-is (updated w m true) n m a s r′
       (lowest-at (updated w m true) n m l (updated-here w m true)
-      (λ j b. updated-there w m true j (λ e. omega arith) ∙ lf .before j (omega arith) (omega arith)))
+      (λ j c. updated-there w m true j (λ e. omega arith) ∙ lf .before j (omega arith) (omega arith)))
       (λ j i. h j i ∙ ⊎-elim
-      (λ e. rw e (rw (updated-here w m true, eq-eqb m m refl) (lf .before m (omega arith) a)))
+      (λ e. rw e (rw (updated-here w m true, eq-eqb m m refl) (lf .before m (omega arith) b)))
       (λ ne. rw (updated-there w m true j ne, ne-eqb j m ne) (sym (and-true (w j))))
       (equal-or j m))
+      (x, λ c. absurd (omega arith), z)
 
-  back : f < n → (j : ℕ) → updated r f true j ≡ w j
-  back a = updated-is r w f true (sym (lf .here (omega arith))) (λ j ne. hr j ∙ rw (ne-eqb j f ne) (and-true (w j)))
+  abbrev back : ℕ → Bool
+  back = updated r f true
 
-  -- the first that was is the second
-  enters-before : m < f → f < n → Lists n (updated w m true) (listed m f (updated r f true) n)
-  unfolding listed countedSet
-  enters-before a b = record {
-    listed = enters-first f (updated r f true) a (λ j i. back b j);
-    known = inr (
-      b,
-      record {
-        from = omega arith;
-        within = omega arith;
-        before = λ k i h. member-below (updated r f true) n k (omega arith) ∙ back b k ∙ lf .before k (omega arith) h;
-        here = λ h. member-below (updated r f true) n f b ∙ updated-here r f true;
-      },
-    );
-  }
+  back-is : f < n → (j : ℕ) → back j ≡ w j
+  back-is b = updated-is r w f true (sym (lf .here (omega arith))) (λ j ne. hr j ∙ rw (ne-eqb j f ne) (and-true (w j)))
 
-  none-left : n ≤ f → (j : ℕ) → j < n → w j ≡ false
-  none-left a j i = lf .before j (omega arith) (omega arith)
+  -- the first that was is the lowest of the others
+  all-behind : f < n → count back 0 n ≤ count back f (n - f)
+  all-behind b =
+      let whole : f + (n - f) ≡ n = omega arith in
+      let from : 0 + f ≡ f = omega arith in
+      omega (
+        arith,
+        rw (whole, from) at (count-split back 0 f (n - f)),
+        count-none back 0 f (λ j i c. back-is b j ∙ lf .before j i (omega arith)),
+      )
 
-  enters-alone : m < f → n ≤ f → Lists n (updated w m true) (listed m 0 r n)
-  unfolding listed
-  enters-alone a b = record {
-    listed = enters-first 0 r a (λ j i. hr j ∙ rw (none-left b j i));
-    known = inl refl;
-  }
+  -- it is remembered, unless one further on is
+  enters-before : (a s : ℕ) → Remembers n f a s r → m < f → f < n → Lists n (updated w m true) (remembering f (listed m a s back n))
+  unfolding remembering listed countedSet
+  enters-before a s x b c = ⊎-elim
+      (λ d. rw (lt-ltb f a d) (enters-first a s back b (λ j i. back-is c j) (ahead-more n f m a s r back (λ y. d) (λ y j i. put-more r f j) (x .0)) (x .2)))
+      (λ d. rw (le-ltb f a d) (enters-first f (count back 0 n) back b (λ j i. back-is c j) (λ y. (c, updated-here r f true, all-behind c))
+      (λ z. absurd (true≢false (sym (updated-here r f true) ∙ count-zero back n z f c)))))
+      (below-or f a)
 
-  enters-same : (s : ℕ) → Known n (listed f s r n) → m ≡ f → Lists n (updated w m true) (listed f s r n)
-  unfolding listed
-  enters-same s kn e = record {
-    listed = listed-is w n f s r lf (λ j i. hr j) ∙ ap (λ v. withSecond (worklistOf v n) s) (sym (fun-ext (updated-same w m true (rw e (lf .here (omega arith))))));
-    known = kn;
-  }
+  enters-alone : (a s : ℕ) → Remembers n f a s r → m < f → n ≤ f → Lists n (updated w m true) (listed m a s r n)
+  enters-alone a s x b c =
+      enters-first a s r b (λ j i. hr j ∙ rw (lf .before j (omega arith) (omega arith))) (λ y. absurd (omega (arith, x .2 (x .1 c)))) (x .2)
 
-  abbrev Entered : ℕ → Type 0
-  Entered s = (L : Worklist) × (withNode n (listed f s r n) m ≡ some L) × Lists n (updated w m true) L
+  abbrev Entered : ℕ → ℕ → Type 0
+  Entered a s = (L : Worklist) × (withNode n (listed f a s r n) m ≡ some L) × Lists n (updated w m true) L
 
-  enters : (s : ℕ) → Known n (listed f s r n) → Entered s
-  unfolding withNode alone listed
-  enters s kn = ⊎-elim below past (below-or f m)
+  enters : (a s : ℕ) → Remembers n f a s r → Entered a s
+  unfolding withNode alone before listed
+  enters a s x = ⊎-elim below past (below-or f m)
     where
-      below : f < m → Entered s
-      below a = (listed f 0 (updated r m true) n, rw (lt-ltb f m a) (behind-set r n m l f s 0), enters-behind a)
+      below : f < m → Entered a s
+      below b = (listed f a s (updated r m true) n, rw (lt-ltb f m b) (behind-set r n m l f a s), enters-behind a s x b)
 
-      same : m ≡ f → Entered s
-      same e = (listed f s r n, rw (le-ltb f m (omega arith), eq-eqb m f e), enters-same s kn e)
+      same : m ≡ f → Entered a s
+      same e = (listed f a s r n, rw (le-ltb f m (omega arith), eq-eqb m f e), enters-same a s x e)
 
-      before : m < f → Entered s
-      before a = ⊎-elim
-          (λ b. (listed m f (updated r f true) n, rw (le-ltb f m (omega arith), ne-eqb m f (λ e. omega arith), lt-ltb f n b) (behind-set r n f b m s f), enters-before a b))
-          (λ b.
-          let z : s ≡ 0 = second-none n f s r kn (λ j i. hr j ∙ rw (none-left b j i)) in
-          (listed m 0 r n, rw (le-ltb f m (omega arith), ne-eqb m f (λ e. omega arith), le-ltb f n b, eq-eqb f n (omega (arith, lf .within)), z), enters-alone a b))
+      lower : m < f → Entered a s
+      lower b = ⊎-elim
+          (λ c. (
+            remembering f (listed m a s back n),
+            rw (le-ltb f m (omega arith), ne-eqb m f (λ e. omega arith), lt-ltb f n c, behind-set r n f c m a s),
+            enters-before a s x b c,
+          ))
+          (λ c. (
+            listed m a s r n,
+            rw (le-ltb f m (omega arith), ne-eqb m f (λ e. omega arith), le-ltb f n c, eq-eqb f n (omega (arith, lf .within))),
+            enters-alone a s x b c,
+          ))
           (below-or f n)
 
-      past : m ≤ f → Entered s
-      past a = ⊎-elim same (λ ne. before (omega (arith, ne))) (equal-or m f)
+      past : m ≤ f → Entered a s
+      past b = ⊎-elim same (λ ne. lower (omega (arith, ne))) (equal-or m f)
 
 pub node-entered : (w : ℕ → Bool) (n m : ℕ) (L : Worklist) → Lists n w L → m < n → (L′ : Worklist) × (withNode n L m ≡ some L′) × Lists n (updated w m true) L′
 unfolding worklistOf butLowest listed
 node-entered w n m L x l =
-    let e = enters w n m (lowest w 0 n) (butLowest w n) l (lowest-is w 0 n) (λ j. refl) (L .second) (subst (Known n) (x .listed) (x .known)) in
+    let e = enters w n m (lowest w 0 n) (butLowest w n) l (lowest-is w 0 n) (λ j. refl) (L .far) (L .farSize) (x .remembers) in
     (e .0, ap (λ y. withNode n y m) (x .listed) ∙ e .1, e .2)
 
 -- ---- the first leaves
 
-module _ (r : ℕ → Bool) (n k g s : ℕ) (h : (j : ℕ) → j ≤ k → r j ≡ false) (lg : Lowest r 0 n g) (kn : Known n (listed k s r n)) where
-  -- nothing else waits
-  last-leaves : count r 0 n ≡ 0 → withoutFirst n (listed k s r n) ≡ some (worklistOf r n)
-  unfolding withoutFirst listed countedSet worklistOf
-  last-leaves z =
-      let e : s ≡ 0 = second-none n k s r kn (count-zero r n z) in
-      rw (eq-eqb (count r 0 n) 0 z, e)
-      (ap some (listed-is r n n 0 r (lowest-none r n (count-zero r n z)) (λ j i. rw (count-zero r n z j i))))
+module _ (r : ℕ → Bool) (n k g a s : ℕ) (h : (j : ℕ) → j ≤ k → r j ≡ false) (lg : Lowest r 0 n g) (x : Remembers n k a s r) where
+  abbrev Left : Type 0
+  Left = (L : Worklist) × (withoutFirst n (listed k a s r n) ≡ some L) × Lists n r L
 
-  module _ (a : k < g) (b : g < n) where
+  forgot : forgotten (listed n a s r n) ≡ listed n 0 0 r n
+  unfolding forgotten listed
+  forgot = go (eqb s 0) refl
+    where
+      go : (b : Bool) → eqb s 0 ≡ b → cond b (listed n a s r n) (withFar (listed n a s r n) 0 0) ≡ listed n 0 0 r n
+      go true e = let z = eqb-true s 0 e in ap₂ (λ y t. listed n y t r n) (x .2 z) z
+      go false e = refl
+
+  -- nothing else waits
+  last-leaves : count r 0 n ≡ 0 → Left
+  unfolding withoutFirst listed countedSet worklistOf
+  last-leaves z = (
+    worklistOf r n,
+    rw (eq-eqb (count r 0 n) 0 z) (ap some (forgot ∙ listed-is r n n 0 0 r (lowest-none r n (count-zero r n z)) (λ j i. rw (count-zero r n z j i)))),
+    lists-of n r,
+  )
+
+  module _ (b : k < g) (c : g < n) where
     here : r g ≡ true
     here = lg .here (omega arith)
 
     next-group : next 32 (setOf (filled (setOf r n)) n) (k / 32) ≡ g / 32
-    next-group = next-found (filled (setOf r n)) n (k / 32) (g / 32) (omega arith) (omega arith) (filled-here r n g b r here)
-        (λ q c. filled-none r n q (λ j e. lg .before j (omega arith) (omega arith)))
+    next-group = next-found (filled (setOf r n)) n (k / 32) (g / 32) (omega arith) (omega arith) (filled-here r n g c r here)
+        (λ q d. filled-none r n q (λ j e. lg .before j (omega arith) (omega arith)))
 
     -- the word of the first itself, if it has members
     same-word : filled (setOf r n) (k / 32) ≡ true → k / 32 ≡ g / 32
     same-word e =
-        sym (next-found (filled (setOf r n)) n (k / 32) (k / 32) (omega arith) (omega arith) e (λ q c. filled-none r n q (λ j p. h j (omega arith))))
+        sym (next-found (filled (setOf r n)) n (k / 32) (k / 32) (omega arith) (omega arith) e (λ q d. filled-none r n q (λ j p. h j (omega arith))))
         ∙ next-group
 
-    sought-filled : soughtFilled (listed k s r n) ≡ g / 32
+    sought-filled : soughtFilled (listed k a s r n) ≡ g / 32
     unfolding soughtFilled listed countedSet
     sought-filled = go (filled (setOf r n) (k / 32)) refl
       where
-        go : (x : Bool) → filled (setOf r n) (k / 32) ≡ x → cond x (k / 32) (next 32 (setOf (filled (setOf r n)) n) (k / 32)) ≡ g / 32
+        go : (y : Bool) → filled (setOf r n) (k / 32) ≡ y → cond y (k / 32) (next 32 (setOf (filled (setOf r n)) n) (k / 32)) ≡ g / 32
         go true e = same-word e
         go false e = next-group
 
-    next-filled : nextFilled (listed k s r n) ≡ g / 32
-    unfolding nextFilled listed
-    next-filled = ⊎-elim
-        (λ z. rw (eq-eqb s 0 z) sought-filled)
-        (λ p.
-        let e : s ≡ g = lowest-only r 0 n s (p .0) ∙ sym (lowest-only r 0 n g lg) in
-        rw (ne-eqb s 0 (λ z. omega (arith, e)), e))
-        (second-place n k s r kn)
+    -- if no more wait than are from a on, a is the lowest
+    far-lowest : count r 0 n ≡ s → k < a → a ≡ g
+    far-lowest e d = ⊎-elim
+        (λ q. absurd (true≢false (sym (p .1) ∙ lg .before a (omega arith) q)))
+        (λ q. ⊎-elim (λ z. absurd (omega (arith, whole, p .2, some-below z))) (λ z. omega arith) (below-or g a))
+        (below-or a g)
+      where
+        p : (a < n) × (r a ≡ true) × (s ≤ count r a (n - a))
+        p = x .0 d
+
+        whole : count r 0 n ≡ count r 0 a + count r a (n - a)
+        whole =
+            let up : a + (n - a) ≡ n = omega (arith, p .0) in
+            let from : 0 + a ≡ a = omega arith in
+            rw (up, from) at (count-split r 0 a (n - a))
+
+        some-below : g < a → 0 < count r 0 a
+        some-below z = omega (arith, count-less (λ j. false) r 0 a g (omega arith) (omega arith) refl here (λ j i q t. absurd (true≢false (sym t))))
+
+    next-filled : nextFilled (listed k a s r n) ≡ g / 32
+    unfolding nextFilled farNext listed countedSet
+    next-filled = go (eqb (count r 0 n) s && ltb k a) refl
+      where
+        go : (y : Bool) → eqb (count r 0 n) s && ltb k a ≡ y → cond y (a / 32) (soughtFilled (listed k a s r n)) ≡ g / 32
+        go true e = ap (λ i. i / 32) (far-lowest (eqb-true (count r 0 n) s (both-left (eqb (count r 0 n) s) (ltb k a) e)) (ltb-true k a (both-right (eqb (count r 0 n) s) (ltb k a) e)))
+        go false e = sought-filled
 
     next-node : next 32 (setOf r n) (32 * (g / 32)) ≡ g
-    next-node = next-found r n (32 * (g / 32)) g (omega arith) b here (λ j c. lg .before j (omega arith) c)
+    next-node = next-found r n (32 * (g / 32)) g (omega arith) c here (λ j d. lg .before j (omega arith) d)
 
     size-less : count r 0 n - 1 ≡ count (updated r g false) 0 n
-    size-less = omega (arith, count-more (updated r g false) r n g b (λ j ne. updated-there r g false j ne) (updated-here r g false) here)
+    size-less = omega (arith, count-more (updated r g false) r n g c (λ j ne. updated-there r g false j ne) (updated-here r g false) here)
 
-    advanced-is : advanced (listed k s r n) (g / 32) g ≡ listed g 0 (updated r g false) n
+    advanced-is : advanced (listed k a s r n) (g / 32) g ≡ listed g a s (updated r g false) n
     unfolding advanced listed countedSet
-    advanced-is = rw (setOf-removed r n g b, groups-out r n g b here, size-less)
+    advanced-is = rw (setOf-removed r n g c, groups-out r n g c here, size-less)
 
-    next-leaves : withoutFirst n (listed k s r n) ≡ some (worklistOf r n)
-    unfolding withoutFirst advance listed countedSet worklistOf
-    next-leaves =
-        rw (ne-eqb (count r 0 n) 0 (λ z. true≢false (sym here ∙ count-zero r n z g b)), next-filled, next-node)
-        (rw (lt-ltb (g / 32) (words32 n) (omega arith), filled-here r n g b r here, lt-ltb k g a)
-        (ap some (advanced-is ∙ listed-is r n g 0 (updated r g false) lg (λ j i. without r g j))))
+    next-leaves : Left
+    unfolding withoutFirst advance listed countedSet
+    next-leaves = (
+      listed g a s (updated r g false) n,
+      rw (ne-eqb (count r 0 n) 0 (λ z. true≢false (sym here ∙ count-zero r n z g c)), next-filled, next-node)
+          (rw (lt-ltb (g / 32) (words32 n) (omega arith), filled-here r n g c r here, lt-ltb k g b) (ap some advanced-is)),
+      lists-is r n g a s (updated r g false) lg (λ j i. without r g j) (
+        ahead-more n k g a s r (updated r g false) (λ y. omega arith) (λ y j i e. updated-there r g false j (λ z. omega arith) ∙ e) (x .0),
+        λ y. absurd (omega arith),
+        x .2,
+      ),
+    )
 
-  leaves : withoutFirst n (listed k s r n) ≡ some (worklistOf r n)
-  leaves = ⊎-elim found (λ c. last-leaves (count-none r 0 n (λ j a b. lg .before j a (omega arith)))) (below-or g n)
+  leaves : Left
+  leaves = ⊎-elim found (λ c. last-leaves (count-none r 0 n (λ j i d. lg .before j i (omega arith)))) (below-or g n)
     where
-      found : g < n → withoutFirst n (listed k s r n) ≡ some (worklistOf r n)
-      found b = ⊎-elim (λ a. next-leaves a b) (λ a. absurd (true≢false (sym (lg .here (omega arith)) ∙ h g a))) (below-or k g)
+      found : g < n → Left
+      found c = ⊎-elim (λ b. next-leaves b c) (λ b. absurd (true≢false (sym (lg .here (omega arith)) ∙ h g b))) (below-or k g)
 
 pub first-left : (w : ℕ → Bool) (n k : ℕ) (L : Worklist) → Lists n w L → k < n → w k ≡ true → ((j : ℕ) → j < k → w j ≡ false)
-    → withoutFirst n L ≡ some (worklistOf (updated w k false) n)
+    → (L′ : Worklist) × (withoutFirst n L ≡ some L′) × Lists n (updated w k false) L′
+unfolding butLowest
 first-left w n k L x l e h =
-    let is : L ≡ listed k (L .second) (updated w k false) n = x .listed ∙ sym (listed-is w n k (L .second) (updated w k false) (lowest-at w n k l e h) (λ j i. without w k j)) in
-    ap (withoutFirst n) is
-    ∙ leaves (updated w k false) n k (lowest (updated w k false) 0 n) (L .second) (λ j a. ⊎-elim
+    let at : Lowest w 0 n k = lowest-at w n k l e h in
+    let is : L ≡ listed k (L .far) (L .farSize) (updated w k false) n = x .listed ∙ sym (listed-is w n k (L .far) (L .farSize) (updated w k false) at (λ j i. without w k j)) in
+    let kept : Remembers n k (L .far) (L .farSize) (λ j. w j && not (eqb j k)) =
+    subst (λ y. Remembers n y (L .far) (L .farSize) (λ j. w j && not (eqb j y))) (sym (lowest-only w 0 n k at)) (x .remembers) in
+    let v = leaves (updated w k false) n k (lowest (updated w k false) 0 n) (L .far) (L .farSize) (λ j a. ⊎-elim
     (λ p. rw p (updated-here w k false))
     (λ p. updated-there w k false j p ∙ h j (omega (arith, p)))
-    (equal-or j k)) (lowest-is (updated w k false) 0 n) (subst (Known n) is (x .known))
+    (equal-or j k)) (lowest-is (updated w k false) 0 n)
+    (remembers-same n k (L .far) (L .farSize) (λ j. w j && not (eqb j k)) (updated w k false) (λ j i. sym (without w k j)) kept) in
+    (v .0, ap (withoutFirst n) is ∙ v .1, v .2)

@@ -27,7 +27,7 @@ use Rattle.kept.specs.Walk.{Walked, ended, broken, walkFrom, keptWalk}
 use Rattle.kept.specs.Check as check
 use Rattle.kept.specs.Check.{entry, seenEntry, nodeEntry, producerEntry, rootEntry, tablesAdmission, freshResult, keptResult, isKept, result}
 use Rattle.kept.specs.Layout.{image, section, ofWords, written, used, listed}
-use Rattle.kept.specs.LayoutLaws.{Fits, room, section-rest, behind-image, length-image, length-unused, fits-of, fits-fresh}
+use Rattle.kept.specs.LayoutLaws.{Fits, room, section-rest, behind-image, length-image, fits-of, fits-fresh}
 use Rattle.kept_laws.specs.FitsLaws.{start-fits}
 use Rattle.kept_laws.specs.WalkEnds.{Rises, rises-lower, walk-ends}
 use Rattle.kept.specs.Candidate.{Candidate, atomsOf}
@@ -137,11 +137,10 @@ module _ (T : Tables) where
     written-keeps : (v : Verdict) (n : ℕ) (d : Evaluation) → Fits T d → Keeps ws (record { answer = accepted v n; words = written T ws d })
     unfolding written
     written-keeps v n d f =
-        let one : length (section T ws 1) ≡ 1 = length-unused T ws (omega (arith, room T)) in
-        let behind : drop (used T) (image d (section T ws 1) (section T ws 9)) ≡ drop (used T) ws = behind-image T d f (section T ws 1) (section T ws 9) one ∙ section-rest T ws in
+        let behind : drop (used T) (image d (section T ws 8)) ≡ drop (used T) ws = behind-image T d f (section T ws 8) ∙ section-rest T ws in
         record {
-          long = length-image T d f (section T ws 1) (section T ws 9) one ∙ ap (λ n. used T + n) (ap length (section-rest T ws) ∙ length-drop (used T) ws) ∙ (omega (arith, room T));
-          past = sym (deeper (image d (section T ws 1) (section T ws 9))) ∙ ap (drop (listed T - used T)) behind ∙ deeper ws;
+          long = length-image T d f (section T ws 8) ∙ ap (λ n. used T + n) (ap length (section-rest T ws) ∙ length-drop (used T) ws) ∙ (omega (arith, room T));
+          past = sym (deeper (image d (section T ws 8))) ∙ ap (drop (listed T - used T)) behind ∙ deeper ws;
           refusal = λ r e. let z : _≡_ {A = ℕ} 0 1 = cc in absurd (omega arith);
         }
       where

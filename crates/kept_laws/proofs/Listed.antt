@@ -24,7 +24,7 @@ use Rattle.kept.specs.Walk.{Walked, ended, broken, keptWalk}
 use Rattle.kept.specs.Check as check
 use Rattle.kept.specs.Check.{keptResult, freshResult, tablesAdmission, isKept, result}
 use Rattle.kept.specs.Layout.{flat, image, section, ofWords, written, used, listed}
-use Rattle.kept.specs.LayoutLaws.{Fits, room, length-image, length-unused, fits-of, image-of, of-image, written-image}
+use Rattle.kept.specs.LayoutLaws.{Fits, room, length-image, fits-of, image-of, of-image, written-image}
 use Rattle.kept.specs.Candidate.{Candidate, listedWords, atomsOf}
 use Rattle.kept.specs.Tests.{firstShort, stamps, strayBit, tests}
 use Rattle.kept.specs.TestLaws.{lent-long}
@@ -88,9 +88,9 @@ module _ (floor divisor : ℕ) (T : Tables) (J : Interpretation) where
 
 module _ (T : Tables) where
   -- what stands behind an image
-  image-split : (e : Evaluation) (unused rest : List ℕ) → image e unused rest ≡ image e unused [] ++ rest
+  image-split : (e : Evaluation) (rest : List ℕ) → image e rest ≡ image e [] ++ rest
   unfolding image flat
-  image-split e unused rest = simp (append-assoc, append-nil)
+  image-split e rest = simp (append-assoc, append-nil)
 
   -- two outcomes that differ past the listed words at most
   abbrev Same : Outcome → Outcome → Type 0
@@ -100,30 +100,27 @@ module _ (T : Tables) where
   abbrev left : List ℕ → List ℕ
   left rest = take (listed T - used T) rest
 
-  image-listed : (e : Evaluation) → Fits T e → (unused rest : List ℕ) → length unused ≡ 1 → listedKept T (image e unused rest) ≡ image e unused (left rest)
-  image-listed e f unused rest one =
-      let n : listed T ≡ length (image e unused []) + (listed T - used T) = omega (arith, room T, length-image T e f unused [] one) in
-      ap₂ take n (image-split e unused rest) ∙ take-append-add (image e unused []) rest (listed T - used T) ∙ sym (image-split e unused (left rest))
+  image-listed : (e : Evaluation) → Fits T e → (rest : List ℕ) → listedKept T (image e rest) ≡ image e (left rest)
+  image-listed e f rest =
+      let n : listed T ≡ length (image e []) + (listed T - used T) = omega (arith, room T, length-image T e f []) in
+      ap₂ take n (image-split e rest) ∙ take-append-add (image e []) rest (listed T - used T) ∙ sym (image-split e (left rest))
 
   module _ (ws : List ℕ) (l : listed T ≤ length ws) where
     fits : Fits T (ofWords T ws)
     fits = fits-of T ws (omega (arith, room T))
 
-    one : length (section T ws 1) ≡ 1
-    one = length-unused T ws (omega (arith, room T))
-
-    words-listed : listedKept T ws ≡ image (ofWords T ws) (section T ws 1) (left (section T ws 9))
-    words-listed = ap (listedKept T) (sym (image-of T ws (omega (arith, room T)))) ∙ image-listed (ofWords T ws) fits (section T ws 1) (section T ws 9) one
+    words-listed : listedKept T ws ≡ image (ofWords T ws) (left (section T ws 8))
+    words-listed = ap (listedKept T) (sym (image-of T ws (omega (arith, room T)))) ∙ image-listed (ofWords T ws) fits (section T ws 8)
 
     held-listed : ofWords (listedTables T) (listedKept T ws) ≡ ofWords T ws
     unfolding ofWords
-    held-listed = ap (ofWords T) words-listed ∙ of-image T (ofWords T ws) fits (section T ws 1) (left (section T ws 9)) one
+    held-listed = ap (ofWords T) words-listed ∙ of-image T (ofWords T ws) fits (left (section T ws 8))
 
     written-listed : (d : Evaluation) → Fits T d → listedKept T (written (listedTables T) (listedKept T ws) d) ≡ listedKept T (written T ws d)
     unfolding written
     written-listed d f =
-        ap (listedKept T) (ap (λ xs. written T xs d) words-listed ∙ written-image T (ofWords T ws) fits (section T ws 1) (left (section T ws 9)) one d
-        ∙ sym (image-listed d f (section T ws 1) (section T ws 9) one))
+        ap (listedKept T) (ap (λ xs. written T xs d) words-listed ∙ written-image T (ofWords T ws) fits (left (section T ws 8)) d
+        ∙ sym (image-listed d f (section T ws 8)))
         ∙ take-take (listed T) (listed T) (written T ws d) (omega arith)
 
     cleared-listed : listedKept T (cleared (listedTables T) (listedKept T ws)) ≡ listedKept T (cleared T ws)

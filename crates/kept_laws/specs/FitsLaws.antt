@@ -21,7 +21,7 @@ use Rattle.readers.specs.Reader.{readingOf}
 use Rattle.kept_laws.specs.OptionLaws.{some-is, if-some, then-some}
 use Rattle.kept.specs.CountedSet.{andThen, CountedSet, moved, withBit, withMember}
 use Rattle.kept.specs.SetOf.{words32}
-use Rattle.kept.specs.Worklist.{Worklist, withFirst, behind, alone, withNode, filled, advanced, advance, nextFilled, withoutFirst}
+use Rattle.kept.specs.Worklist.{Worklist, withFirst, withFar, behind, remembering, alone, before, withNode, filled, advanced, advance, nextFilled, forgotten, withoutFirst}
 use Rattle.kept.specs.Tables.{Tables, atomCount, nodeCount, rootCount, headAt, readersAt, atomNodesAt}
 use Rattle.kept.specs.Evaluation.{Evaluation, truthAt, present, truthWord}
 use Rattle.kept.specs.Parts.{withTruths, withWorklist, withSupport, withCandidate, withFalseRoots}
@@ -55,9 +55,9 @@ pub record Alike (w r : Worklist) : Type 0 where
   pub groups : length (r .groups) ≡ length (w .groups)
 
 -- a node behind the first
-behind-is : (n : ℕ) (w : Worklist) (m s : ℕ) (r : Worklist) → behind n w m s ≡ some r → Alike w r × (r .first ≡ w .first)
+pub behind-is : (n : ℕ) (w : Worklist) (m : ℕ) (r : Worklist) → behind n w m ≡ some r → Alike w r × (r .first ≡ w .first)
 unfolding behind
-behind-is n w m s r e =
+behind-is n w m r e =
     let t = then-some (withMember n (w .others) m true) (λ o. some (put o)) r e in
     let i : put (t .0) ≡ r = some-is (put (t .0)) r (t .2) in (
       record {
@@ -68,7 +68,24 @@ behind-is n w m s r e =
     )
   where
     put : CountedSet → Worklist
-    put o = record { first = w .first; second = s; others = o; groups = inserted 32 (w .groups) (m / 32) }
+    put o = record { first = w .first; far = w .far; farSize = w .farSize; others = o; groups = inserted 32 (w .groups) (m / 32) }
+
+-- what is remembered is no part of it
+remembering-is : (m : ℕ) (w : Worklist) → Alike w (remembering m w) × (remembering m w .first ≡ w .first)
+unfolding remembering
+remembering-is m w = go (ltb m (w .far))
+  where
+    go : (b : Bool) → let r = cond b w (withFar w m (w .others .size)) in Alike w r × (r .first ≡ w .first)
+    go true = (record { members = refl; groups = refl }, refl)
+    go false = (record { members = refl; groups = refl }, refl)
+
+forgotten-is : (w : Worklist) → Alike w (forgotten w) × (forgotten w .first ≡ w .first)
+unfolding forgotten
+forgotten-is w = go (eqb (w .farSize) 0)
+  where
+    go : (b : Bool) → let r = cond b w (withFar w 0 0) in Alike w r × (r .first ≡ w .first)
+    go true = (record { members = refl; groups = refl }, refl)
+    go false = (record { members = refl; groups = refl }, refl)
 
 -- a node enters: above k, if it and the first are
 module _ (n : ℕ) (w : Worklist) (m : ℕ) (r : Worklist) where
@@ -76,7 +93,7 @@ module _ (n : ℕ) (w : Worklist) (m : ℕ) (r : Worklist) where
   Enters = Alike w r × ((k : ℕ) → k < m → k < w .first → k < r .first)
 
   pub node-is : withNode n w m ≡ some r → Enters
-  unfolding withNode alone
+  unfolding withNode alone before
   node-is e = go (ltb (w .first) m) refl (eqb m (w .first)) (ltb (w .first) n) (eqb (w .first) n) e
     where
       same : w ≡ r → Enters
@@ -85,12 +102,16 @@ module _ (n : ℕ) (w : Worklist) (m : ℕ) (r : Worklist) where
       lower : withFirst w m ≡ r → Enters
       lower i = (record { members = ap (λ y. length (y .others .members)) (sym i); groups = ap (λ y. length (y .groups)) (sym i) }, λ k a b. let x : m ≡ r .first = ap (λ y. y .first) i in omega (arith, x))
 
-      put : behind n (withFirst w m) (w .first) (w .first) ≡ some r → Enters
-      put h = let b = behind-is n (withFirst w m) (w .first) (w .first) r h in (record { members = b .0 .members; groups = b .0 .groups }, λ k x y. omega (arith, b .1))
+      put : andThen (behind n (withFirst w m) (w .first)) (λ v. some (remembering (w .first) v)) ≡ some r → Enters
+      put h =
+          let t = then-some (behind n (withFirst w m) (w .first)) (λ v. some (remembering (w .first) v)) r h in
+          let b = behind-is n (withFirst w m) (w .first) (t .0) (t .1) in
+          let c : Alike (t .0) r × (r .first ≡ t .0 .first) = rw (some-is (remembering (w .first) (t .0)) r (t .2)) at (remembering-is (w .first) (t .0)) in
+          (record { members = c .0 .members ∙ b .0 .members; groups = c .0 .groups ∙ b .0 .groups }, λ k x y. omega (arith, b .1, c .1))
 
       go : (a : Bool) → ltb (w .first) m ≡ a → (b c d : Bool)
-          → cond a (behind n w m 0) (cond b (some w) (cond c (behind n (withFirst w m) (w .first) (w .first)) (cond d (some (withFirst w m)) none))) ≡ some r → Enters
-      go true p b c d h = let x = behind-is n w m 0 r h in (x .0, λ k y z. omega (arith, x .1))
+          → cond a (behind n w m) (cond b (some w) (cond c (andThen (behind n (withFirst w m) (w .first)) (λ v. some (remembering (w .first) v))) (cond d (some (withFirst w m)) none))) ≡ some r → Enters
+      go true p b c d h = let x = behind-is n w m r h in (x .0, λ k y z. omega (arith, x .1))
       go false p true c d h = same (some-is w r h)
       go false p false true d h = put h
       go false p false false true h = lower (some-is (withFirst w m) r h)
@@ -123,11 +144,13 @@ module _ (n : ℕ) (w : Worklist) (r : Worklist) where
   unfolding withoutFirst
   left-is e = go (eqb (w .others .size) 0) e
     where
-      last : withFirst w n ≡ r → Leaves
-      last i = (record { members = ap (λ y. length (y .others .members)) (sym i); groups = ap (λ y. length (y .groups)) (sym i) }, λ l. let x : n ≡ r .first = ap (λ y. y .first) i in omega (arith, x))
+      last : forgotten (withFirst w n) ≡ r → Leaves
+      last i =
+          let b : Alike (withFirst w n) r × (r .first ≡ n) = rw i at (forgotten-is (withFirst w n)) in
+          (record { members = b .0 .members; groups = b .0 .groups }, λ l. omega (arith, b .1))
 
-      go : (b : Bool) → cond b (some (withFirst w n)) (advance n w (nextFilled w) (next 32 (w .others .members) (32 * nextFilled w))) ≡ some r → Leaves
-      go true h = last (some-is (withFirst w n) r h)
+      go : (b : Bool) → cond b (some (forgotten (withFirst w n))) (advance n w (nextFilled w) (next 32 (w .others .members) (32 * nextFilled w))) ≡ some r → Leaves
+      go true h = last (some-is (forgotten (withFirst w n)) r h)
       go false h = advance-is (nextFilled w) (next 32 (w .others .members) (32 * nextFilled w)) h
 
 module _ (T : Tables) where

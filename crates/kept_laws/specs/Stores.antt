@@ -9,7 +9,7 @@ use lib.ListN.{length, getD, set, take, drop, List·getD-append}
 use lib.Seq.{set-append-left, getD-append-add, drop-append-seam, take-append-seam, take-append-add, drop-append-add}
 use Rattle.kept.specs.SetOf.{words32}
 use Rattle.kept.specs.CountedSet.{CountedSet}
-use Rattle.kept.specs.Worklist.{Worklist, withFirst, withSecond}
+use Rattle.kept.specs.Worklist.{Worklist, withFirst, withFar}
 use Rattle.kept.specs.Tables.{Tables, atomCount, nodeCount, rootCount}
 use Rattle.kept.specs.Evaluation.{Evaluation, support}
 use Rattle.kept.specs.Parts.{withTruths, withWorklist, withSupport, withCandidate, withFalseRoots}
@@ -70,152 +70,152 @@ abbrev pub withSize : CountedSet → ℕ → CountedSet
 withSize s n = record { members = s .members; size = n }
 
 abbrev pub withOthers : Worklist → CountedSet → Worklist
-withOthers w o = record { first = w .first; second = w .second; others = o; groups = w .groups }
+withOthers w o = record { first = w .first; far = w .far; farSize = w .farSize; others = o; groups = w .groups }
 
 abbrev pub withGroups : Worklist → List ℕ → Worklist
-withGroups w ws = record { first = w .first; second = w .second; others = w .others; groups = ws }
+withGroups w ws = record { first = w .first; far = w .far; farSize = w .farSize; others = w .others; groups = ws }
 
-module _ (T : Tables) (e : Evaluation) (fits : Fits T e) (unused rest : List ℕ) (one : length unused ≡ 1) where
+module _ (T : Tables) (e : Evaluation) (fits : Fits T e) (rest : List ℕ) where
   abbrev ps : List (List ℕ)
-  ps = parts e unused rest
+  ps = parts e rest
 
-  at-truths : (i : ℕ) → truthsStart + i ≡ start ps 2 + i
+  at-truths : (i : ℕ) → truthsStart + i ≡ start ps 1 + i
   unfolding start
   at-truths i = omega arith
 
-  at-worklist : (i : ℕ) → worklistStart T + i ≡ start ps 3 + i
+  at-worklist : (i : ℕ) → worklistStart T + i ≡ start ps 2 + i
   unfolding start
   at-worklist i = omega (arith, fits .truths)
 
-  at-support : (i : ℕ) → supportStart T + i ≡ start ps 4 + i
+  at-support : (i : ℕ) → supportStart T + i ≡ start ps 3 + i
   unfolding start
   at-support i = omega (arith, fits .truths, fits .worklist)
 
-  at-candidate : (i : ℕ) → candidateStart T + i ≡ start ps 5 + i
+  at-candidate : (i : ℕ) → candidateStart T + i ≡ start ps 4 + i
   unfolding start
   at-candidate i = omega (arith, fits .truths, fits .worklist, fits .support)
 
-  at-missing : (i : ℕ) → missingStart T + i ≡ start ps 6 + i
+  at-missing : (i : ℕ) → missingStart T + i ≡ start ps 5 + i
   unfolding start
   at-missing i = omega (arith, fits .truths, fits .worklist, fits .support, fits .candidate)
 
-  at-falseRoots : (i : ℕ) → falseRootsStart T + i ≡ start ps 7 + i
+  at-falseRoots : (i : ℕ) → falseRootsStart T + i ≡ start ps 6 + i
   unfolding start
   at-falseRoots i = omega (arith, fits .truths, fits .worklist, fits .support, fits .candidate, fits .missing)
 
-  at-groups : (i : ℕ) → groupsStart T + i ≡ start ps 8 + i
+  at-groups : (i : ℕ) → groupsStart T + i ≡ start ps 7 + i
   unfolding start
   at-groups i = omega (arith, fits .truths, fits .worklist, fits .support, fits .candidate, fits .missing, fits .falseRoots)
 
   -- ---- stores
 
-  pub store-truth : (k v : ℕ) → k < nodeCount T → set (image e unused rest) (truthsStart + k) v ≡ image (withTruths e (set (e .truths) k v)) unused rest
+  pub store-truth : (k v : ℕ) → k < nodeCount T → set (image e rest) (truthsStart + k) v ≡ image (withTruths e (set (e .truths) k v)) rest
   unfolding image
-  store-truth k v l = ap (λ m. set (flat ps) m v) (at-truths k) ∙ flat-set ps 2 k v (omega (arith, fits .truths))
+  store-truth k v l = ap (λ m. set (flat ps) m v) (at-truths k) ∙ flat-set ps 1 k v (omega (arith, fits .truths))
 
   pub store-worklist : (i v : ℕ) → i < words32 (nodeCount T)
-      → set (image e unused rest) (worklistStart T + i) v ≡ image (withWorklist e (withOthers (e .worklist) (withMembers (e .worklist .others) (set (e .worklist .others .members) i v)))) unused rest
+      → set (image e rest) (worklistStart T + i) v ≡ image (withWorklist e (withOthers (e .worklist) (withMembers (e .worklist .others) (set (e .worklist .others .members) i v)))) rest
   unfolding image
-  store-worklist i v l = ap (λ m. set (flat ps) m v) (at-worklist i) ∙ flat-set ps 3 i v (omega (arith, fits .worklist))
+  store-worklist i v l = ap (λ m. set (flat ps) m v) (at-worklist i) ∙ flat-set ps 2 i v (omega (arith, fits .worklist))
 
-  pub store-support : (a v : ℕ) → a < atomCount T → set (image e unused rest) (supportStart T + a) v ≡ image (withSupport e (set (e .support) a v) (e .missing)) unused rest
+  pub store-support : (a v : ℕ) → a < atomCount T → set (image e rest) (supportStart T + a) v ≡ image (withSupport e (set (e .support) a v) (e .missing)) rest
   unfolding image
-  store-support a v l = ap (λ m. set (flat ps) m v) (at-support a) ∙ flat-set ps 4 a v (omega (arith, fits .support))
+  store-support a v l = ap (λ m. set (flat ps) m v) (at-support a) ∙ flat-set ps 3 a v (omega (arith, fits .support))
 
   pub store-candidate : (i v : ℕ) → i < words32 (atomCount T)
-      → set (image e unused rest) (candidateStart T + i) v ≡ image (withCandidate e (set (e .candidate) i v) (e .missing)) unused rest
+      → set (image e rest) (candidateStart T + i) v ≡ image (withCandidate e (set (e .candidate) i v) (e .missing)) rest
   unfolding image
-  store-candidate i v l = ap (λ m. set (flat ps) m v) (at-candidate i) ∙ flat-set ps 5 i v (omega (arith, fits .candidate))
+  store-candidate i v l = ap (λ m. set (flat ps) m v) (at-candidate i) ∙ flat-set ps 4 i v (omega (arith, fits .candidate))
 
   pub store-missing : (i v : ℕ) → i < words32 (atomCount T)
-      → set (image e unused rest) (missingStart T + i) v ≡ image (withSupport e (e .support) (withMembers (e .missing) (set (e .missing .members) i v))) unused rest
+      → set (image e rest) (missingStart T + i) v ≡ image (withSupport e (e .support) (withMembers (e .missing) (set (e .missing .members) i v))) rest
   unfolding image
-  store-missing i v l = ap (λ m. set (flat ps) m v) (at-missing i) ∙ flat-set ps 6 i v (omega (arith, fits .missing))
+  store-missing i v l = ap (λ m. set (flat ps) m v) (at-missing i) ∙ flat-set ps 5 i v (omega (arith, fits .missing))
 
   pub store-falseRoots : (i v : ℕ) → i < words32 (rootCount T)
-      → set (image e unused rest) (falseRootsStart T + i) v ≡ image (withFalseRoots e (withMembers (e .falseRoots) (set (e .falseRoots .members) i v))) unused rest
+      → set (image e rest) (falseRootsStart T + i) v ≡ image (withFalseRoots e (withMembers (e .falseRoots) (set (e .falseRoots .members) i v))) rest
   unfolding image
-  store-falseRoots i v l = ap (λ m. set (flat ps) m v) (at-falseRoots i) ∙ flat-set ps 7 i v (omega (arith, fits .falseRoots))
+  store-falseRoots i v l = ap (λ m. set (flat ps) m v) (at-falseRoots i) ∙ flat-set ps 6 i v (omega (arith, fits .falseRoots))
 
   pub store-groups : (i v : ℕ) → i < words32 (nodeCount T)
-      → set (image e unused rest) (groupsStart T + i) v ≡ image (withWorklist e (withGroups (e .worklist) (set (e .worklist .groups) i v))) unused rest
+      → set (image e rest) (groupsStart T + i) v ≡ image (withWorklist e (withGroups (e .worklist) (set (e .worklist .groups) i v))) rest
   unfolding image
-  store-groups i v l = ap (λ m. set (flat ps) m v) (at-groups i) ∙ flat-set ps 8 i v (omega (arith, fits .groups))
+  store-groups i v l = ap (λ m. set (flat ps) m v) (at-groups i) ∙ flat-set ps 7 i v (omega (arith, fits .groups))
 
   -- the numbers in the header
-  pub store-missing-size : (v : ℕ) → set (image e unused rest) 2 v ≡ image (withSupport e (e .support) (withSize (e .missing) v)) unused rest
+  pub store-missing-size : (v : ℕ) → set (image e rest) 2 v ≡ image (withSupport e (e .support) (withSize (e .missing) v)) rest
   unfolding image flat
   store-missing-size v = refl
 
-  pub store-falseRoots-size : (v : ℕ) → set (image e unused rest) 3 v ≡ image (withFalseRoots e (withSize (e .falseRoots) v)) unused rest
+  pub store-falseRoots-size : (v : ℕ) → set (image e rest) 3 v ≡ image (withFalseRoots e (withSize (e .falseRoots) v)) rest
   unfolding image flat
   store-falseRoots-size v = refl
 
-  pub store-worklist-size : (v : ℕ) → set (image e unused rest) 4 v ≡ image (withWorklist e (withOthers (e .worklist) (withSize (e .worklist .others) v))) unused rest
+  pub store-worklist-size : (v : ℕ) → set (image e rest) 4 v ≡ image (withWorklist e (withOthers (e .worklist) (withSize (e .worklist .others) v))) rest
   unfolding image flat
   store-worklist-size v = refl
 
-  pub store-first : (v : ℕ) → set (image e unused rest) 5 v ≡ image (withWorklist e (withFirst (e .worklist) v)) unused rest
+  pub store-first : (v : ℕ) → set (image e rest) 5 v ≡ image (withWorklist e (withFirst (e .worklist) v)) rest
   unfolding image flat
   store-first v = refl
 
-  pub store-second : (v : ℕ) → set (image e unused rest) 6 v ≡ image (withWorklist e (withSecond (e .worklist) v)) unused rest
+  pub store-far : (a s : ℕ) → set (set (image e rest) 6 a) 7 s ≡ image (withWorklist e (withFar (e .worklist) a s)) rest
   unfolding image flat
-  store-second v = refl
+  store-far a s = refl
 
   -- ---- loads
 
-  pub load-truth : (k : ℕ) → k < nodeCount T → getD (image e unused rest) (truthsStart + k) 0 ≡ getD (e .truths) k 0
+  pub load-truth : (k : ℕ) → k < nodeCount T → getD (image e rest) (truthsStart + k) 0 ≡ getD (e .truths) k 0
   unfolding image
-  load-truth k l = ap (λ m. getD (flat ps) m 0) (at-truths k) ∙ flat-get ps 2 k (omega (arith, fits .truths))
+  load-truth k l = ap (λ m. getD (flat ps) m 0) (at-truths k) ∙ flat-get ps 1 k (omega (arith, fits .truths))
 
-  pub load-worklist : (i : ℕ) → i < words32 (nodeCount T) → getD (image e unused rest) (worklistStart T + i) 0 ≡ getD (e .worklist .others .members) i 0
+  pub load-worklist : (i : ℕ) → i < words32 (nodeCount T) → getD (image e rest) (worklistStart T + i) 0 ≡ getD (e .worklist .others .members) i 0
   unfolding image
-  load-worklist i l = ap (λ m. getD (flat ps) m 0) (at-worklist i) ∙ flat-get ps 3 i (omega (arith, fits .worklist))
+  load-worklist i l = ap (λ m. getD (flat ps) m 0) (at-worklist i) ∙ flat-get ps 2 i (omega (arith, fits .worklist))
 
-  pub load-support : (a : ℕ) → a < atomCount T → getD (image e unused rest) (supportStart T + a) 0 ≡ getD (e .support) a 0
+  pub load-support : (a : ℕ) → a < atomCount T → getD (image e rest) (supportStart T + a) 0 ≡ getD (e .support) a 0
   unfolding image
-  load-support a l = ap (λ m. getD (flat ps) m 0) (at-support a) ∙ flat-get ps 4 a (omega (arith, fits .support))
+  load-support a l = ap (λ m. getD (flat ps) m 0) (at-support a) ∙ flat-get ps 3 a (omega (arith, fits .support))
 
-  pub load-candidate : (i : ℕ) → i < words32 (atomCount T) → getD (image e unused rest) (candidateStart T + i) 0 ≡ getD (e .candidate) i 0
+  pub load-candidate : (i : ℕ) → i < words32 (atomCount T) → getD (image e rest) (candidateStart T + i) 0 ≡ getD (e .candidate) i 0
   unfolding image
-  load-candidate i l = ap (λ m. getD (flat ps) m 0) (at-candidate i) ∙ flat-get ps 5 i (omega (arith, fits .candidate))
+  load-candidate i l = ap (λ m. getD (flat ps) m 0) (at-candidate i) ∙ flat-get ps 4 i (omega (arith, fits .candidate))
 
-  pub load-missing : (i : ℕ) → i < words32 (atomCount T) → getD (image e unused rest) (missingStart T + i) 0 ≡ getD (e .missing .members) i 0
+  pub load-missing : (i : ℕ) → i < words32 (atomCount T) → getD (image e rest) (missingStart T + i) 0 ≡ getD (e .missing .members) i 0
   unfolding image
-  load-missing i l = ap (λ m. getD (flat ps) m 0) (at-missing i) ∙ flat-get ps 6 i (omega (arith, fits .missing))
+  load-missing i l = ap (λ m. getD (flat ps) m 0) (at-missing i) ∙ flat-get ps 5 i (omega (arith, fits .missing))
 
-  pub load-falseRoots : (i : ℕ) → i < words32 (rootCount T) → getD (image e unused rest) (falseRootsStart T + i) 0 ≡ getD (e .falseRoots .members) i 0
+  pub load-falseRoots : (i : ℕ) → i < words32 (rootCount T) → getD (image e rest) (falseRootsStart T + i) 0 ≡ getD (e .falseRoots .members) i 0
   unfolding image
-  load-falseRoots i l = ap (λ m. getD (flat ps) m 0) (at-falseRoots i) ∙ flat-get ps 7 i (omega (arith, fits .falseRoots))
+  load-falseRoots i l = ap (λ m. getD (flat ps) m 0) (at-falseRoots i) ∙ flat-get ps 6 i (omega (arith, fits .falseRoots))
 
-  pub load-groups : (i : ℕ) → i < words32 (nodeCount T) → getD (image e unused rest) (groupsStart T + i) 0 ≡ getD (e .worklist .groups) i 0
+  pub load-groups : (i : ℕ) → i < words32 (nodeCount T) → getD (image e rest) (groupsStart T + i) 0 ≡ getD (e .worklist .groups) i 0
   unfolding image
-  load-groups i l = ap (λ m. getD (flat ps) m 0) (at-groups i) ∙ flat-get ps 8 i (omega (arith, fits .groups))
+  load-groups i l = ap (λ m. getD (flat ps) m 0) (at-groups i) ∙ flat-get ps 7 i (omega (arith, fits .groups))
 
   -- ---- a set lent as a slice of its own, from a up to b, and given back as y
 
-  read-part : (k a b : ℕ) → a + 0 ≡ start ps k + 0 → b - a ≡ length (getD ps k []) → take (b - a) (drop a (image e unused rest)) ≡ getD ps k []
+  read-part : (k a b : ℕ) → a + 0 ≡ start ps k + 0 → b - a ≡ length (getD ps k []) → take (b - a) (drop a (image e rest)) ≡ getD ps k []
   unfolding image
   read-part k a b p q = let i : a ≡ start ps k = omega arith in rw (q, i) (flat-read ps k)
 
-  lend-part : (k a b : ℕ) (y : List ℕ) → k < 10 → a + 0 ≡ start ps k + 0 → b ≡ a + length (getD ps k []) → take a (image e unused rest) ++ (y ++ drop b (image e unused rest)) ≡ flat (set ps k y)
+  lend-part : (k a b : ℕ) (y : List ℕ) → k < 9 → a + 0 ≡ start ps k + 0 → b ≡ a + length (getD ps k []) → take a (image e rest) ++ (y ++ drop b (image e rest)) ≡ flat (set ps k y)
   unfolding image
   lend-part k a b y l p q = let i : a ≡ start ps k = omega arith in rw (q, i) (flat-part ps k y l)
 
-  pub read-candidate : take (missingStart T - candidateStart T) (drop (candidateStart T) (image e unused rest)) ≡ e .candidate
-  read-candidate = read-part 5 (candidateStart T) (missingStart T) (at-candidate 0) (omega (arith, fits .candidate))
+  pub read-candidate : take (missingStart T - candidateStart T) (drop (candidateStart T) (image e rest)) ≡ e .candidate
+  read-candidate = read-part 4 (candidateStart T) (missingStart T) (at-candidate 0) (omega (arith, fits .candidate))
 
-  pub read-missing : take (falseRootsStart T - missingStart T) (drop (missingStart T) (image e unused rest)) ≡ e .missing .members
-  read-missing = read-part 6 (missingStart T) (falseRootsStart T) (at-missing 0) (omega (arith, fits .missing))
+  pub read-missing : take (falseRootsStart T - missingStart T) (drop (missingStart T) (image e rest)) ≡ e .missing .members
+  read-missing = read-part 5 (missingStart T) (falseRootsStart T) (at-missing 0) (omega (arith, fits .missing))
 
-  pub read-falseRoots : take (groupsStart T - falseRootsStart T) (drop (falseRootsStart T) (image e unused rest)) ≡ e .falseRoots .members
-  read-falseRoots = read-part 7 (falseRootsStart T) (groupsStart T) (at-falseRoots 0) (omega (arith, fits .falseRoots))
+  pub read-falseRoots : take (groupsStart T - falseRootsStart T) (drop (falseRootsStart T) (image e rest)) ≡ e .falseRoots .members
+  read-falseRoots = read-part 6 (falseRootsStart T) (groupsStart T) (at-falseRoots 0) (omega (arith, fits .falseRoots))
 
-  pub read-groups : take (used T - groupsStart T) (drop (groupsStart T) (image e unused rest)) ≡ e .worklist .groups
-  read-groups = read-part 8 (groupsStart T) (used T) (at-groups 0) (omega (arith, fits .groups))
+  pub read-groups : take (used T - groupsStart T) (drop (groupsStart T) (image e rest)) ≡ e .worklist .groups
+  read-groups = read-part 7 (groupsStart T) (used T) (at-groups 0) (omega (arith, fits .groups))
 
   pub lend-candidate : (y : List ℕ)
-      → take (candidateStart T) (image e unused rest) ++ (y ++ drop (missingStart T) (image e unused rest)) ≡ image (withCandidate e y (e .missing)) unused rest
+      → take (candidateStart T) (image e rest) ++ (y ++ drop (missingStart T) (image e rest)) ≡ image (withCandidate e y (e .missing)) rest
   unfolding image
-  lend-candidate y = lend-part 5 (candidateStart T) (missingStart T) y (omega arith) (at-candidate 0) (omega (arith, fits .candidate))
+  lend-candidate y = lend-part 4 (candidateStart T) (missingStart T) y (omega arith) (at-candidate 0) (omega (arith, fits .candidate))

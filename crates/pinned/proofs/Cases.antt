@@ -51,7 +51,7 @@ use Rattle.plan.specs.Outcome.{planned, planOutcome, certifyOutcome}
 use Rattle.kept.specs.Tabulate.{tabulate}
 use Rattle.kept.specs.SetOf.{setOf, allInserted}
 use Rattle.kept.specs.CountedSet.{countedSet, moved, withBit, withMember, lookup}
-use Rattle.kept.specs.Worklist.{behind, alone, withNode, filled, advanced, advance, soughtFilled, nextFilled, withoutFirst, butLowest, worklistOf}
+use Rattle.kept.specs.Worklist.{behind, remembering, alone, before, withNode, filled, advanced, advance, soughtFilled, farNext, nextFilled, forgotten, withoutFirst, butLowest, worklistOf}
 use Rattle.kept.specs.Tables.{operandsAt, between, listAt}
 use Rattle.kept.specs.Evaluation as evaluation
 use Rattle.kept.specs.Evaluation.{held, truth, bodyTrue, supports, support, falseRoot, summary}
@@ -86,5 +86,5 @@ pub cases-hold : (Answers rows × Answers fileOrder × Answers tabled × Answers
     × (Answers loadShort × Answers (planningShort planBy) × Answers (planningShort certifyBy) × Answers checkShort)
     × (Answers thresholds × Answers unmet)
     × (Leaves loadings × Leaves plannings × Leaves checkings × Leaves fresh × Leaves kept)
-unfolding flatMap loadings plannings checkings thresholds rows fileOrder tabled planningOrder checkingOrder stampsAndBits loadShort planningShort checkShort fresh kept unmet lent.producers readerLists afterNone afterZero exampleNodes exampleOperands exampleRoots fiveNodes fiveRoots sixNodes sixRoots front gather places count lowest rising extended bit next member inserted removed told nodeAt span operandsOf limitsOf allBelow spanStart groupAdmission nodeAdmission rootAdmission firstRefusal nodesAdmission rootsAdmission admission class.joined nodeClass nodeClasses greatest nodeHighest nodeHighests allTrue anyTrue nodeTruth nodeTruths record-rising.risingFrom record-rising.rising record-number.number numbers isMark nodeMarkAt markAt valueCount valuesStart recordEnd valuesOf ofNext unless judgedGroup judgedValues judgedWhole judgedMarked record-judged.judged ended readFrom theoryFile over loadingSound loading classWords chosen eitherOrder headOf fact rule producedBy produced refusedBy supportedAt rootsSupported madeBy producers producerWords producersBefore remaining graph.removed peak depth derive only operandEdges nodeEdges bodyEdges producedEdges edgesInto edgesOf dependencies bodyOrder producedOrder orderAt orderBy rankOrder rankCheck joined startOf laid laidOver readingOf packed occurrences readingNode readersOf atomNodesOf listOf built shortBuffer plan.judged derived planJudged certifyJudged planned planOutcome certifyOutcome tabulate setOf allInserted countedSet moved withBit withMember lookup operandsAt between listAt held truth bodyTrue supports support falseRoot summary evaluation.fresh missingAtom verdict judged verdictOf entered missingBy supportMoved rootTurned readerUpdated readersUpdated settled seen seenBy nodeSeen groupSeen stepAt step allEntered atomTurned atomUpdated walkStart walk keptWalk nodeEntry producerEntry rootEntry tablesAdmission freshResult keptResult changes isKept result flat cut image ofWords written atomsOf firstShort stamps strayBit tests cleared outcomeAt outcome worklistOf butLowest filled withNode alone soughtFilled nextFilled withoutFirst behind advance advanced
+unfolding flatMap loadings plannings checkings thresholds rows fileOrder tabled planningOrder checkingOrder stampsAndBits loadShort planningShort checkShort fresh kept unmet lent.producers readerLists afterNone afterZero exampleNodes exampleOperands exampleRoots fiveNodes fiveRoots sixNodes sixRoots front gather places count lowest rising extended bit next member inserted removed told nodeAt span operandsOf limitsOf allBelow spanStart groupAdmission nodeAdmission rootAdmission firstRefusal nodesAdmission rootsAdmission admission class.joined nodeClass nodeClasses greatest nodeHighest nodeHighests allTrue anyTrue nodeTruth nodeTruths record-rising.risingFrom record-rising.rising record-number.number numbers isMark nodeMarkAt markAt valueCount valuesStart recordEnd valuesOf ofNext unless judgedGroup judgedValues judgedWhole judgedMarked record-judged.judged ended readFrom theoryFile over loadingSound loading classWords chosen eitherOrder headOf fact rule producedBy produced refusedBy supportedAt rootsSupported madeBy producers producerWords producersBefore remaining graph.removed peak depth derive only operandEdges nodeEdges bodyEdges producedEdges edgesInto edgesOf dependencies bodyOrder producedOrder orderAt orderBy rankOrder rankCheck joined startOf laid laidOver readingOf packed occurrences readingNode readersOf atomNodesOf listOf built shortBuffer plan.judged derived planJudged certifyJudged planned planOutcome certifyOutcome tabulate setOf allInserted countedSet moved withBit withMember lookup operandsAt between listAt held truth bodyTrue supports support falseRoot summary evaluation.fresh missingAtom verdict judged verdictOf entered missingBy supportMoved rootTurned readerUpdated readersUpdated settled seen seenBy nodeSeen groupSeen stepAt step allEntered atomTurned atomUpdated walkStart walk keptWalk nodeEntry producerEntry rootEntry tablesAdmission freshResult keptResult changes isKept result flat cut image ofWords written atomsOf firstShort stamps strayBit tests cleared outcomeAt outcome worklistOf butLowest filled withNode alone soughtFilled farNext nextFilled forgotten withoutFirst behind remembering before advance advanced
 cases-hold = ((refl, refl, refl, refl, refl, refl), (refl, refl, refl, refl), (refl, refl), (refl, refl, refl, refl, refl))

@@ -102,8 +102,8 @@ kept =
     -- the first waiting node is 7 of 6; node 9 of 6 waits
     ∷ entry planned (set afterNone 5 7) 0 0
     ∷ entry planned (set (set (set (set afterNone 4 1) 5 2) 14 512) 20 1) 0 0
-    -- node 3 waits behind node 2, but the second is said to be 40 of 6
-    ∷ entry planned (set (set (set (set (set afterNone 4 1) 5 2) 6 40) 14 8) 20 1) 0 0
+    -- node 3 waits behind node 2, but 40 of 6 is remembered as the only one that does
+    ∷ entry planned (set (set (set (set (set (set afterNone 4 1) 5 2) 6 40) 7 1) 14 8) 20 1) 0 0
     -- more producers than roots
     ∷ entry (tables (counts 2 6 2 2) 7 3 exampleNodes exampleOperands exampleRoots producers readers) afterNone 2 0
     -- a candidate bit at or above the atoms

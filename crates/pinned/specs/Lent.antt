@@ -58,7 +58,7 @@ planned = tables (counts 2 6 2 2) 7 2 exampleNodes exampleOperands exampleRoots 
 abbrev pub candidate : ℕ → List ℕ → Candidate
 candidate stamp words = record { stamp = stamp; words = words }
 
--- 36 words of a check of {}, and of {0}: state, stamp, counts of missing atoms, of false roots and of waiting nodes but the first, the first waiting node, the second if it is known, one unused;
+-- 36 words of a check of {}, and of {0}: state, stamp, counts of missing atoms, of false roots and of waiting nodes but the first, the first waiting node, the node remembered and the number of the others then;
 -- truths; waiting nodes, support (two words), candidate, missing atoms, false roots, groups
 unfoldable pub afterNone : List ℕ
 afterNone = (1 ∷ 7 ∷ 0 ∷ 0 ∷ 0 ∷ 6 ∷ 0 ∷ 0 ∷ []) ++ (0 ∷ 0 ∷ 1 ∷ 0 ∷ 1 ∷ 1 ∷ []) ++ (0 ∷ 1 ∷ 0 ∷ 0 ∷ 0 ∷ 0 ∷ 0 ∷ []) ++ zeros 15

@@ -7,19 +7,27 @@ use lib.Dec.{eqb}
 use lib.ListN.{getD}
 use Rattle.words.specs.Next.{next}
 use Rattle.kept.specs.CountedSet.{andThen, withMember}
-use Rattle.kept.specs.Worklist.{behind, advance, withoutFirst}
+use Rattle.kept.specs.Worklist.{withFirst, behind, remembering, advance, forgotten, withoutFirst}
 use Rattle.kept.specs.Tables.{Tables, atomCount, nodeCount}
 use Rattle.kept.specs.Evaluation.{Evaluation}
 use Rattle.kept.specs.Parts.{withWorklist, withSupport}
 use Rattle.kept.specs.Step.{missingBy}
 
--- node m behind the first of the worklist; s: what is then known of the second
-unfoldable pub waiting : Tables → ℕ → ℕ → Evaluation → Option Evaluation
-waiting T m s e = andThen (behind (nodeCount T) (e .worklist) m s) (λ w. some (withWorklist e w))
+-- node m behind the first of the worklist
+unfoldable pub waiting : Tables → ℕ → Evaluation → Option Evaluation
+waiting T m e = andThen (behind (nodeCount T) (e .worklist) m) (λ w. some (withWorklist e w))
+
+-- node m, which was the first
+unfoldable pub putBehind : Tables → ℕ → Evaluation → Option Evaluation
+putBehind T m e = andThen (andThen (behind (nodeCount T) (e .worklist) m) (λ v. some (remembering m v))) (λ w. some (withWorklist e w))
 
 -- the lowest member of word q in the place of the first
 unfoldable pub advancedTo : Tables → ℕ → Evaluation → Option Evaluation
 advancedTo T q e = andThen (advance (nodeCount T) (e .worklist) q (next 32 (e .worklist .others .members) (32 * q))) (λ w. some (withWorklist e w))
+
+-- the first off the worklist, where no other waits
+unfoldable pub drained : Tables → Evaluation → Evaluation
+drained T e = withWorklist e (forgotten (withFirst (e .worklist) (nodeCount T)))
 
 -- the first off the worklist
 unfoldable pub dequeued : Tables → Evaluation → Option Evaluation

@@ -3,23 +3,23 @@
 use Prim.Native.Nat.{ℕ, _<_, _≤_, _+_, _-_, _*_, _/_, _%_, _^_}
 use native.Mathlib.Omega.{arith}
 use mathlib.Core.Path.{_≡_, refl, ap, sym, _∙_}
-use mathlib.Core.Bool.{Bool, true, false, not, cond}
+use mathlib.Core.Bool.{Bool, true, false, not, cond, _&&_}
 use mathlib.Core.List.{List}
 use mathlib.Core.Option.{Option, some, none}
 use lib.Bits.{bitAnd}
 use lib.Count.{trailingZeros}
 use lib.Dec.{eqb, ltb}
 use lib.ListN.{length, getD, set, take, drop, length-set, length-drop}
-use lib.Seq.{getD-set-same, length-take-le}
+use lib.Seq.{getD-set-same, getD-set-other, length-take-le}
 use borrow.Author.Tests.{eq-eqb, ne-eqb, lt-ltb, le-ltb}
 use Rattle.words.specs.BitLaws.{trailing-below}
 use Rattle.words.specs.Next.{next}
 use Rattle.words.specs.NextLaws.{next-hit}
 use Rattle.words.specs.Sets.{inserted, removed}
-use Rattle.words.specs.SetLaws.{length-inserted, length-removed}
+use Rattle.words.specs.SetLaws.{length-removed}
 use Rattle.kept.specs.SetOf.{words32}
 use Rattle.kept.specs.CountedSet.{andThen, CountedSet, withBit, withMember}
-use Rattle.kept.specs.Worklist.{Worklist, withFirst, withSecond, behind, alone, withNode, filled, advanced, advance, soughtFilled, nextFilled, withoutFirst}
+use Rattle.kept.specs.Worklist.{Worklist, withFirst, withFar, behind, remembering, alone, before, withNode, filled, advanced, advance, soughtFilled, farNext, nextFilled, forgotten, withoutFirst}
 use Rattle.kept.specs.Tables.{Tables, nodeCount}
 use Rattle.kept.specs.Evaluation.{Evaluation}
 use Rattle.kept.specs.Parts.{withWorklist}
@@ -28,12 +28,12 @@ use Rattle.kept.specs.Layout.{ofWords, written, worklistStart, groupsStart, use
 use Rattle.kept.specs.LayoutLaws.{Fits, fits-of}
 use Rattle.kept_laws.specs.OptionLaws.{some-is, then-some}
 use Rattle.kept_laws.specs.Stores.{withMembers, withOthers, withGroups}
-use Rattle.kept_laws.specs.FitsLaws.{worklist-fits, length-members}
-use Rattle.kept_laws.specs.Written.{written-same, of-written, length-written, put-worklist, put-worklist-size, put-first, put-second, put-groups, get-worklist, get-worklist-size, get-first, get-second, get-groups, part-groups}
+use Rattle.kept_laws.specs.FitsLaws.{worklist-fits, length-members, behind-is}
+use Rattle.kept_laws.specs.Written.{written-same, of-written, length-written, put-worklist, put-worklist-size, put-first, put-far, put-groups, get-worklist, get-worklist-size, get-first, get-far, get-far-size, get-groups, part-groups}
 use Rattle.kept_laws.specs.Wrote.{Wrote, beside-same, beside-written, wrote-some, wrote-none, wrote-true, wrote-false, wrote-then, mid-holds}
 use Rattle.retained.specs.Member.{digitPut, bitPut, memberPut, Put}
 use Rattle.retained.specs.MemberLaws.{put-wrote}
-use Rattle.retained.specs.Changes.{waiting, advancedTo, dequeued}
+use Rattle.retained.specs.Changes.{waiting, putBehind, advancedTo, drained, dequeued}
 use Rattle.retained.specs.Groups.{regrouped}
 use Rattle.words.specs.TakeOffLaws.{digit-off}
 
@@ -94,39 +94,87 @@ module _ (T : Tables) (ws : List ℕ) (long : used T ≤ length ws) where
       ∙ put-worklist-size T ws long (put (withMembers (w .others) (set (w .others .members) (m / 32) v)))
       (others-fit (withMembers (w .others) (set (w .others .members) (m / 32) v)) (length-set (w .others .members) (m / 32) v)) n)
 
-  module _ (m s : ℕ) (l : m < nodeCount T) (ok : Bool) (mid : List ℕ) (h : Put ws (memberPut (worklistStart T) 4 (nodeCount T) m true ws) ok mid) where
+  module _ (m : ℕ) (l : m < nodeCount T) (ok : Bool) (mid : List ℕ) (h : Put ws (memberPut (worklistStart T) 4 (nodeCount T) m true ws) ok mid) where
     abbrev others : Option CountedSet
     others = withMember (nodeCount T) (w .others) m true
 
     grouped : CountedSet → Worklist
-    grouped o = record { first = w .first; second = w .second; others = o; groups = inserted 32 (w .groups) (m / 32) }
+    grouped o = record { first = w .first; far = w .far; farSize = w .farSize; others = o; groups = inserted 32 (w .groups) (m / 32) }
 
-    pub wait-done : ok ≡ true → Wrote T ws (waiting T m s e) true (set (bitPut (groupsStart T) (m / 32) true mid) 6 s)
+    pub wait-done : ok ≡ true → Wrote T ws (waiting T m e) true (bitPut (groupsStart T) (m / 32) true mid)
     unfolding waiting behind withBit grouped
     wait-done p =
         let r = wrote-true T ws (andThen others (λ o. some (put o))) mid ok (others-wrote m l ok mid h) p in
         let t = then-some others (λ o. some (put o)) (r .0) (r .1) in
         let q : mid ≡ written T ws (put (t .0)) = r .2 ∙ ap (written T ws) (sym (some-is (put (t .0)) (r .0) (t .2))) in
-        let long-as : length (t .0 .members) ≡ length (w .others .members) = length-members (nodeCount T) (w .others) m true (t .0) (t .1) in
-        wrote-some T ws (waiting T m s e) (set (bitPut (groupsStart T) (m / 32) true mid) 6 s) (withWorklist e (withSecond (grouped (t .0)) s))
-        (ap (λ o. andThen (andThen o (λ o. some (withSecond (grouped o) s))) (λ v. some (withWorklist e v))) (t .1))
-        (ap (λ y. set (bitPut (groupsStart T) (m / 32) true y) 6 s) q
-        ∙ ap (λ y. set y 6 s) (group-stored (m / 32) (omega arith) true (put (t .0)) (others-fit (t .0) long-as))
-        ∙ put-second T ws long (withWorklist e (grouped (t .0))) (worklist-fits T e (grouped (t .0)) (record { members = long-as; groups = length-inserted 32 (w .groups) (m / 32) }) fits) s)
+        wrote-some T ws (waiting T m e) (bitPut (groupsStart T) (m / 32) true mid) (withWorklist e (grouped (t .0)))
+        (ap (λ o. andThen (andThen o (λ o. some (grouped o))) (λ v. some (withWorklist e v))) (t .1))
+        (ap (bitPut (groupsStart T) (m / 32) true) q ∙ group-stored (m / 32) (omega arith) true (put (t .0)) (others-fit (t .0) (length-members (nodeCount T) (w .others) m true (t .0) (t .1))))
 
-    pub wait-none : ok ≡ false → Wrote T ws (waiting T m s e) false mid
+    pub wait-none : ok ≡ false → Wrote T ws (waiting T m e) false mid
     unfolding waiting behind
     wait-none p =
         let r = wrote-false T ws (andThen others (λ o. some (put o))) mid ok (others-wrote m l ok mid h) p in
-        wrote-none T ws (waiting T m s e) mid (rw (not-then others (r .0))) (r .1)
+        wrote-none T ws (waiting T m e) mid (rw (not-then others (r .0))) (r .1)
       where
         not-then : (o : Option CountedSet) → andThen o (λ o. some (put o)) ≡ none → o ≡ none
         not-then none h = refl
         not-then (some o) h = let z : _≡_ {A = ℕ} 0 1 = cc in absurd (omega arith)
 
+  -- ---- the first behind a lower one
+
+  module _ (m : ℕ) (ok : Bool) (mid : List ℕ) (h : Wrote T ws (waiting T m e) ok mid) where
+    pub put-behind-none : ok ≡ false → Wrote T ws (putBehind T m e) false mid
+    unfolding waiting putBehind
+    put-behind-none p =
+        let r = wrote-false T ws (waiting T m e) mid ok h p in
+        wrote-none T ws (putBehind T m e) mid (not-then (behind (nodeCount T) w m) (r .0)) (r .1)
+      where
+        not-then : (o : Option Worklist) → andThen o (λ v. some (withWorklist e v)) ≡ none
+            → andThen (andThen o (λ v. some (remembering m v))) (λ v. some (withWorklist e v)) ≡ none
+        not-then none q = refl
+        not-then (some o) q = let z : _≡_ {A = ℕ} 0 1 = cc in absurd (omega arith)
+
+    module _ (p : ok ≡ true) where
+      waited : (v : Worklist) × (behind (nodeCount T) w m ≡ some v) × (mid ≡ written T ws (withWorklist e v))
+      unfolding waiting
+      waited =
+          let r = wrote-true T ws (waiting T m e) mid ok h p in
+          let t = then-some (behind (nodeCount T) w m) (λ v. some (withWorklist e v)) (r .0) (r .1) in
+          (t .0, t .1, r .2 ∙ ap (written T ws) (sym (some-is (withWorklist e (t .0)) (r .0) (t .2))))
+
+      abbrev v : Worklist
+      v = waited .0
+
+      v-fits : Fits T (withWorklist e v)
+      v-fits = worklist-fits T e v (behind-is (nodeCount T) w m v (waited .1) .0) fits
+
+      holds : ofWords T mid ≡ withWorklist e v
+      holds = mid-holds T ws mid (withWorklist e v) long v-fits (waited .2)
+
+      remembered : (r : Worklist) → remembering m v ≡ r → putBehind T m e ≡ some (withWorklist e r)
+      unfolding putBehind
+      remembered r i = rw (waited .1, i)
+
+      far-is : getD mid 6 0 ≡ v .far
+      far-is = get-far T mid ∙ ap (λ d. d .worklist .far) holds
+
+      pub put-behind-far : m < getD mid 6 0 → Wrote T ws (putBehind T m e) true mid
+      unfolding remembering
+      put-behind-far l = wrote-some T ws (putBehind T m e) mid (withWorklist e v) (remembered v (rw (lt-ltb m (v .far) (rw far-is at l)))) (waited .2)
+
+      pub put-behind-done : getD mid 6 0 ≤ m → Wrote T ws (putBehind T m e) true (set (set mid 6 m) 7 (getD (set mid 6 m) 4 0))
+      unfolding remembering
+      put-behind-done l =
+          let size : getD (set mid 6 m) 4 0 ≡ v .others .size =
+          getD-set-other mid 6 4 m 0 (λ z. omega arith) ∙ get-worklist-size T mid ∙ ap (λ d. d .worklist .others .size) holds in
+          wrote-some T ws (putBehind T m e) (set (set mid 6 m) 7 (getD (set mid 6 m) 4 0)) (withWorklist e (withFar v m (v .others .size)))
+          (remembered (withFar v m (v .others .size)) (rw (le-ltb m (v .far) (rw far-is at l))))
+          (ap (set (set mid 6 m) 7) size ∙ ap (λ y. set (set y 6 m) 7 (v .others .size)) (waited .2) ∙ put-far T ws long (withWorklist e v) v-fits m (v .others .size))
+
   -- ---- a node enters
 
-  queue-behind : (m : ℕ) (ok : Bool) (after : List ℕ) → getD ws 5 0 < m → Wrote T ws (waiting T m 0 e) ok after → Wrote T ws (entered T m e) ok after
+  pub queue-behind : (m : ℕ) (ok : Bool) (after : List ℕ) → getD ws 5 0 < m → Wrote T ws (waiting T m e) ok after → Wrote T ws (entered T m e) ok after
   unfolding entered withNode waiting
   queue-behind m ok after l h = rw (lt-ltb (w .first) m (rw (get-first T ws) at l)) h
 
@@ -154,8 +202,8 @@ module _ (T : Tables) (ws : List ℕ) (long : used T ≤ length ws) where
     comes-first : nodeCount T ≤ w .first → withNode (nodeCount T) w m ≡ alone (nodeCount T) w m
     unfolding withNode
     comes-first n =
-        passed (behind (nodeCount T) w m 0) (cond (ltb (w .first) (nodeCount T)) (behind (nodeCount T) (withFirst w m) (w .first) (w .first)) (alone (nodeCount T) w m))
-        ∙ ap (λ b. cond b (behind (nodeCount T) (withFirst w m) (w .first) (w .first)) (alone (nodeCount T) w m)) (le-ltb (w .first) (nodeCount T) n)
+        passed (behind (nodeCount T) w m) (cond (ltb (w .first) (nodeCount T)) (before (nodeCount T) w m) (alone (nodeCount T) w m))
+        ∙ ap (λ b. cond b (before (nodeCount T) w m) (alone (nodeCount T) w m)) (le-ltb (w .first) (nodeCount T) n)
 
     -- none waited, or the first points past the nodes
     queue-first : nodeCount T ≤ getD ws 5 0 → Wrote T ws (entered T m e) (eqb (getD ws 5 0) (nodeCount T)) (set ws 5 m)
@@ -174,61 +222,70 @@ module _ (T : Tables) (ws : List ℕ) (long : used T ≤ length ws) where
             (rw (first-stored m) (beside-written T ws (withWorklist e (withFirst w m)) long (first-fits m)))
 
     queue-lower : (ok : Bool) (after : List ℕ) → getD ws 5 0 < nodeCount T
-        → Wrote T (set ws 5 m) (waiting T (getD ws 5 0) (getD ws 5 0) (ofWords T (set ws 5 m))) ok after → Wrote T ws (entered T m e) ok after
-    unfolding entered withNode waiting
+        → Wrote T (set ws 5 m) (putBehind T (getD ws 5 0) (ofWords T (set ws 5 m))) ok after → Wrote T ws (entered T m e) ok after
+    unfolding entered withNode before putBehind
     queue-lower ok after n h =
         let d : Evaluation = withWorklist e (withFirst w m) in
         let i : ofWords T (set ws 5 m) ≡ d = mid-holds T ws (set ws 5 m) d long (first-fits m) (first-stored m) in
-        let g = wrote-then T ws (set ws 5 m) d long (first-fits m) (first-stored m) (waiting T (getD ws 5 0) (getD ws 5 0) (ofWords T (set ws 5 m))) ok after h in
-        let s : waiting T (getD ws 5 0) (getD ws 5 0) (ofWords T (set ws 5 m)) ≡ waiting T (w .first) (w .first) d = rw (i, get-first T ws) in
-        rw (passed (behind (nodeCount T) w m 0) (cond (ltb (w .first) (nodeCount T)) (behind (nodeCount T) (withFirst w m) (w .first) (w .first)) (alone (nodeCount T) w m)), lt-ltb (w .first) (nodeCount T) (rw (get-first T ws) at n))
+        let g = wrote-then T ws (set ws 5 m) d long (first-fits m) (first-stored m) (putBehind T (getD ws 5 0) (ofWords T (set ws 5 m))) ok after h in
+        let s : putBehind T (getD ws 5 0) (ofWords T (set ws 5 m)) ≡ putBehind T (w .first) d = rw (i, get-first T ws) in
+        rw (passed (behind (nodeCount T) w m) (cond (ltb (w .first) (nodeCount T)) (before (nodeCount T) w m) (alone (nodeCount T) w m)), lt-ltb (w .first) (nodeCount T) (rw (get-first T ws) at n))
         (rw s at g)
 
   module _ (m first : ℕ) (is : first ≡ getD ws 5 0) where
     pub queue-alone : m < first → nodeCount T ≤ first → Wrote T ws (entered T m e) (eqb first (nodeCount T)) (set ws 5 m)
     queue-alone l n = rw is (queue-first m (omega (arith, is)) (omega (arith, is)))
 
-    -- the other of the two goes on
-    module _ (other second : ℕ) (mid : List ℕ) (ok : Bool) (after : List ℕ) (h : Wrote T mid (waiting T other second (ofWords T mid)) ok after) where
-      pub queue-before : m < first → first < nodeCount T → mid ≡ set ws 5 m → other ≡ first → second ≡ first → Wrote T ws (entered T m e) ok after
-      queue-before l n p q r = queue-lower m (omega (arith, is)) ok after (omega (arith, is)) (rw (p, q ∙ is, r ∙ is) at h)
-
-      pub queue-after : first < m → mid ≡ ws → other ≡ m → second ≡ 0 → Wrote T ws (entered T m e) ok after
-      queue-after l p q r = queue-behind m ok after (omega (arith, is)) (rw (p, q, r) at h)
+    pub queue-before : (ok : Bool) (after : List ℕ) → m < first → first < nodeCount T → Wrote T (set ws 5 m) (putBehind T first (ofWords T (set ws 5 m))) ok after
+        → Wrote T ws (entered T m e) ok after
+    queue-before ok after l n h = queue-lower m (omega (arith, is)) ok after (omega (arith, is)) (rw is at h)
 
   -- ---- the first leaves
 
-  pub dequeue-last : getD ws 4 0 ≡ 0 → Wrote T ws (dequeued T e) true (set ws 5 (nodeCount T))
-  unfolding dequeued withoutFirst
-  dequeue-last z =
-      wrote-some T ws (dequeued T e) (set ws 5 (nodeCount T)) (withWorklist e (withFirst w (nodeCount T)))
-      (rw (eq-eqb (w .others .size) 0 (sym (get-worklist-size T ws) ∙ z)))
-      (first-stored (nodeCount T))
+  far-size-is : getD (set ws 5 (nodeCount T)) 7 0 ≡ w .farSize
+  far-size-is = getD-set-other ws 5 7 (nodeCount T) 0 (λ z. omega arith) ∙ get-far-size T ws
 
-  -- the next word with members: that of the second
-  module _ (second : ℕ) (is : second ≡ getD ws 6 0) where
-    pub next-known : (second ≡ 0 → ⊥) → nextFilled w ≡ second / 32
+  pub drain-none : getD (set ws 5 (nodeCount T)) 7 0 ≡ 0 → Wrote T ws (some (drained T e)) true (set ws 5 (nodeCount T))
+  unfolding drained forgotten
+  drain-none z = (refl, first-stored (nodeCount T) ∙ rw (eq-eqb (w .farSize) 0 (sym far-size-is ∙ z)))
+
+  pub drain-far : (getD (set ws 5 (nodeCount T)) 7 0 ≡ 0 → ⊥) → Wrote T ws (some (drained T e)) true (set (set (set ws 5 (nodeCount T)) 6 0) 7 0)
+  unfolding drained forgotten
+  drain-far ne = (
+    refl,
+    ap (λ y. set (set y 6 0) 7 0) (first-stored (nodeCount T)) ∙ put-far T ws long (withWorklist e (withFirst w (nodeCount T))) (first-fits (nodeCount T)) 0 0
+        ∙ rw (ne-eqb (w .farSize) 0 (λ z. ne (far-size-is ∙ z))),
+  )
+
+  pub dequeue-last : (ok : Bool) (after : List ℕ) → getD ws 4 0 ≡ 0 → Wrote T ws (some (drained T e)) ok after → Wrote T ws (dequeued T e) ok after
+  unfolding dequeued withoutFirst drained
+  dequeue-last ok after z h = rw (eq-eqb (w .others .size) 0 (sym (get-worklist-size T ws) ∙ z)) h
+
+  -- the next word with members, after node k; b: whether it is that of the node remembered
+  module _ (k : ℕ) (first : getD ws 5 0 ≡ k) (inside : k < nodeCount T) (b : Bool) (test : b ≡ (eqb (getD ws 4 0) (getD ws 7 0) && ltb k (getD ws 6 0))) where
+    far-told : farNext w ≡ b
+    unfolding farNext ofWords
+    far-told = rw first (sym test)
+
+    pub next-far : (q : ℕ) → b ≡ true → q ≡ getD ws 6 0 → nextFilled w ≡ q / 32
     unfolding nextFilled
-    next-known ne = rw (ne-eqb (w .second) 0 (λ z. ne (is ∙ get-second T ws ∙ z))) (ap (λ i. i / 32) (sym (is ∙ get-second T ws)))
+    next-far q y i = rw (far-told ∙ y) (ap (λ x. x / 32) (sym (i ∙ get-far T ws)))
 
-    -- if none is known, it is looked for
-    sought : second ≡ 0 → nextFilled w ≡ soughtFilled w
+    sought : b ≡ false → nextFilled w ≡ soughtFilled w
     unfolding nextFilled
-    sought z = rw (eq-eqb (w .second) 0 (sym (is ∙ get-second T ws) ∙ z))
+    sought y = rw (far-told ∙ y)
 
-  -- after node k
-  module _ (second : ℕ) (is : second ≡ getD ws 6 0) (unknown : second ≡ 0) (k : ℕ) (first : getD ws 5 0 ≡ k) (inside : k < nodeCount T) where
     here : getD ws (worklistStart T + k / 32) 0 ≡ getD (w .others .members) (w .first / 32) 0
     here = get-worklist T ws long (k / 32) (omega arith) ∙ ap (λ i. getD (w .others .members) (i / 32) 0) (sym first ∙ get-first T ws)
 
-    pub next-here : (getD ws (worklistStart T + k / 32) 0 ≡ 0 → ⊥) → nextFilled w ≡ k / 32
+    pub next-here : b ≡ false → (getD ws (worklistStart T + k / 32) 0 ≡ 0 → ⊥) → nextFilled w ≡ k / 32
     unfolding soughtFilled filled
-    next-here ne = sought second is unknown ∙ rw (ne-eqb (getD (w .others .members) (w .first / 32) 0) 0 (λ z. ne (here ∙ z))) (ap (λ i. i / 32) (sym (get-first T ws) ∙ first))
+    next-here y ne = sought y ∙ rw (ne-eqb (getD (w .others .members) (w .first / 32) 0) 0 (λ z. ne (here ∙ z))) (ap (λ i. i / 32) (sym (get-first T ws) ∙ first))
 
-    pub next-beyond : (q : ℕ) → getD ws (worklistStart T + k / 32) 0 ≡ 0 → q ≡ next 32 (w .groups) (k / 32) → nextFilled w ≡ q
+    pub next-beyond : (q : ℕ) → b ≡ false → getD ws (worklistStart T + k / 32) 0 ≡ 0 → q ≡ next 32 (w .groups) (k / 32) → nextFilled w ≡ q
     unfolding soughtFilled filled
-    next-beyond q z group =
-        sought second is unknown
+    next-beyond q y z group =
+        sought y
         ∙ rw (eq-eqb (getD (w .others .members) (w .first / 32) 0) 0 (sym here ∙ z))
         (ap (λ i. next 32 (w .groups) (i / 32)) (sym (get-first T ws) ∙ first) ∙ sym group)
 
@@ -330,7 +387,7 @@ module _ (T : Tables) (ws : List ℕ) (long : used T ≤ length ws) where
       count-stays = get-worklist-size T mid ∙ ap (λ y. ofWords T y .worklist .others .size) stored2 ∙ ap (λ y. y .worklist .others .size) (of-written T ws long d2 fits2) ∙ sym (get-worklist-size T ws)
 
       after : List ℕ → Worklist
-      after g = record { first = m; second = 0; others = record { members = set (w .others .members) q left; size = w .others .size - 1 }; groups = g }
+      after g = record { first = m; far = w .far; farSize = w .farSize; others = record { members = set (w .others .members) q left; size = w .others .size - 1 }; groups = g }
 
       advanced-is : w .first < m → advance (nodeCount T) w q m ≡ some (after groups)
       unfolding advance advanced groups filled after
@@ -342,16 +399,15 @@ module _ (T : Tables) (ws : List ℕ) (long : used T ≤ length ws) where
           go true = refl
           go false = refl
 
-      pub advance-done : getD ws 5 0 < m → Wrote T ws (advancedTo T q e) true (set (set (set mid 4 (getD mid 4 0 - 1)) 5 m) 6 0)
+      pub advance-done : getD ws 5 0 < m → Wrote T ws (advancedTo T q e) true (set (set mid 4 (getD mid 4 0 - 1)) 5 m)
       unfolding advancedTo after
       advance-done h =
-          wrote-some T ws (advancedTo T q e) (set (set (set mid 4 (getD mid 4 0 - 1)) 5 m) 6 0) d5
+          wrote-some T ws (advancedTo T q e) (set (set mid 4 (getD mid 4 0 - 1)) 5 m) d4
           (rw found (ap (λ o. andThen o (λ v. some (withWorklist e v))) (advanced-is (rw (get-first T ws) at h))))
-          (ap (λ n. set (set (set mid 4 (n - 1)) 5 m) 6 0) (count-stays ∙ get-worklist-size T ws)
-          ∙ ap (λ y. set (set (set y 4 (w .others .size - 1)) 5 m) 6 0) stored2
-          ∙ ap (λ y. set (set y 5 m) 6 0) (put-worklist-size T ws long d2 fits2 (w .others .size - 1))
-          ∙ ap (λ y. set y 6 0) (put-first T ws long d3 fits3 m)
-          ∙ put-second T ws long d4 fits4 0)
+          (ap (λ n. set (set mid 4 (n - 1)) 5 m) (count-stays ∙ get-worklist-size T ws)
+          ∙ ap (λ y. set (set y 4 (w .others .size - 1)) 5 m) stored2
+          ∙ ap (λ y. set y 5 m) (put-worklist-size T ws long d2 fits2 (w .others .size - 1))
+          ∙ put-first T ws long d3 fits3 m)
         where
           d3 : Evaluation
           d3 = withWorklist d2 (withOthers (d2 .worklist) (record { members = set (w .others .members) q left; size = w .others .size - 1 }))
@@ -359,11 +415,5 @@ module _ (T : Tables) (ws : List ℕ) (long : used T ≤ length ws) where
           d4 : Evaluation
           d4 = withWorklist d3 (withFirst (d3 .worklist) m)
 
-          d5 : Evaluation
-          d5 = withWorklist d4 (withSecond (d4 .worklist) 0)
-
           fits3 : Fits T d3
           fits3 = worklist-fits T d2 (withOthers (d2 .worklist) (record { members = set (w .others .members) q left; size = w .others .size - 1 })) (record { members = refl; groups = refl }) fits2
-
-          fits4 : Fits T d4
-          fits4 = worklist-fits T d3 (withFirst (d3 .worklist) m) (record { members = refl; groups = refl }) fits3

@@ -1,7 +1,9 @@
 // Changes of a kept evaluation in its lent words: `queue`, `presence`, `support` and `root` of tight/evaluate.rs. Each that can fail answers false where a count would leave its range.
 ghost use mathlib.Core.Path.{_≡_};
-ghost use mathlib.Core.Bool.{true, false};
+ghost use mathlib.Core.Bool.{true, false, _&&_};
+ghost use mathlib.Core.Option.{some};
 ghost use Prim.Native.Nat.{_+_, _-_, _*_, _/_, _<_, _≤_};
+ghost use lib.Dec.{eqb, ltb};
 ghost use lib.ListN.{length, getD, set};
 ghost use Rattle.theory.specs.Limits.{Limited};
 ghost use Rattle.words.specs.Next.{next};
@@ -12,7 +14,7 @@ ghost use Rattle.kept.specs.Step.{entered, supportMoved, rootTurned};
 ghost use Rattle.kept_laws.specs.Given.{groupsAt, usedBy, sized, supplied};
 ghost use Rattle.kept_laws.specs.Wrote.{Wrote};
 ghost use Rattle.retained.specs.Member.{Put, bitPut, memberPut};
-ghost use Rattle.retained.specs.Changes.{missingTurned, missingMoved, presenceTurned, waiting, advancedTo, dequeued};
+ghost use Rattle.retained.specs.Changes.{missingTurned, missingMoved, presenceTurned, waiting, putBehind, advancedTo, drained, dequeued};
 ghost use Rattle.retained.specs.Groups.{regrouped};
 use theory::Counts;
 
@@ -66,40 +68,51 @@ fn turn(kept: &mut [u32], at: usize, size: usize, most: usize, i: usize, x: bool
     }
 }
 
-// Node m among those that wait behind the first, and what is then known of the second: the lowest of them, or 0.
-fn wait(counts: Counts, kept: &mut [u32], m: usize, second: usize) -> bool
-    requires { ⌜ Limited counts × (m < counts .nodes) × (usedBy counts ≤ length (now kept)) × (second < counts .nodes) ⌝ }
-    ensures { λ r. ⌜ ((T : Tables) → Wrote (sized counts T) (now (kept .entry)) (waiting (sized counts T) m second (ofWords (sized counts T) (now (kept .entry)))) r (now (kept .exit))) ⌝ }
+// Node m among those that wait behind the first.
+fn wait(counts: Counts, kept: &mut [u32], m: usize) -> bool
+    requires { ⌜ Limited counts × (m < counts .nodes) × (usedBy counts ≤ length (now kept)) ⌝ }
+    ensures { λ r. ⌜ ((T : Tables) → Wrote (sized counts T) (now (kept .entry)) (waiting (sized counts T) m (ofWords (sized counts T) (now (kept .entry)))) r (now (kept .exit))) ⌝ }
 {
     if !include(kept, 8 + counts.nodes, 4, counts.nodes, m) {
         return false;
     }
     mark(kept, kept_laws::groups_at(counts), m / 32, true);
-    kept[6] = second as u32;
+    true
+}
+
+// Node m, which was the first, waits behind a lower one. It is remembered with the number of those that wait then, unless one further on is.
+fn put_behind(counts: Counts, kept: &mut [u32], m: usize) -> bool
+    requires { ⌜ Limited counts × (m < counts .nodes) × (usedBy counts ≤ length (now kept)) ⌝ }
+    ensures { λ r. ⌜ ((T : Tables) → Wrote (sized counts T) (now (kept .entry)) (putBehind (sized counts T) m (ofWords (sized counts T) (now (kept .entry)))) r (now (kept .exit))) ⌝ }
+{
+    if !wait(counts, kept, m) {
+        return false;
+    }
+    if words::word(kept, 6) > m {
+        return true;
+    }
+    kept[6] = m as u32;
+    kept[7] = kept[4];
     true
 }
 
 // Node m onto the worklist: the lower of it and the first comes first, the other waits behind; a first above the number of nodes is refused.
-// A first put behind is the second then, so that it need not be looked for when m leaves.
 pub fn queue(counts: Counts, kept: &mut [u32], m: usize) -> bool
     requires { ⌜ Limited counts × (m < counts .nodes) × (usedBy counts ≤ length (now kept)) ⌝ }
     ensures { λ r. ⌜ ((T : Tables) → Wrote (sized counts T) (now (kept .entry)) (entered (sized counts T) m (ofWords (sized counts T) (now (kept .entry)))) r (now (kept .exit))) ⌝ }
 {
     let first = words::word(kept, 5);
-    let mut other = m;
-    let mut second = 0;
-    if m <= first {
-        if m == first {
-            return true;
-        }
-        kept[5] = m as u32;
-        if first >= counts.nodes {
-            return first == counts.nodes;
-        }
-        other = first;
-        second = first;
+    if m > first {
+        return wait(counts, kept, m);
     }
-    wait(counts, kept, other, second)
+    if m == first {
+        return true;
+    }
+    kept[5] = m as u32;
+    if first >= counts.nodes {
+        return first == counts.nodes;
+    }
+    put_behind(counts, kept, first)
 }
 
 // The first word from q on that has members by the groups.
@@ -122,7 +135,7 @@ fn regroup(counts: Counts, kept: &mut [u32], q: usize, rest: u32)
     }
 }
 
-// The lowest member of word q comes first, after node k, and the second is not known; false if the word has none or it is not above k.
+// The lowest member of word q comes first, after node k; false if the word has none or it is not above k.
 fn advance(counts: Counts, kept: &mut [u32], k: usize, q: usize) -> bool
     requires { ⌜ Limited counts × (q < words32 (counts .nodes)) × (usedBy counts ≤ length (now kept)) × (getD (now kept) 5 0 ≡ k) × (0 < getD (now kept) 4 0) ⌝ }
     ensures { λ r. ⌜ ((T : Tables) → Wrote (sized counts T) (now (kept .entry)) (advancedTo (sized counts T) q (ofWords (sized counts T) (now (kept .entry)))) r (now (kept .exit))) ⌝ }
@@ -142,8 +155,32 @@ fn advance(counts: Counts, kept: &mut [u32], k: usize, q: usize) -> bool
     regroup(counts, kept, q, rest);
     kept[4] = kept[4] - 1;
     kept[5] = m as u32;
-    kept[6] = 0;
     true
+}
+
+// The first leaves and no other waits: nothing is remembered.
+fn drain(counts: Counts, kept: &mut [u32]) -> bool
+    requires { ⌜ Limited counts × (usedBy counts ≤ length (now kept)) ⌝ }
+    ensures { λ r. ⌜ ((T : Tables) → Wrote (sized counts T) (now (kept .entry)) (some (drained (sized counts T) (ofWords (sized counts T) (now (kept .entry))))) r (now (kept .exit))) ⌝ }
+{
+    kept[5] = counts.nodes as u32;
+    if kept[7] == 0 {
+        return true;
+    }
+    kept[6] = 0;
+    kept[7] = 0;
+    true
+}
+
+// No more wait behind node k, the first, than when the node remembered, and still ahead, was put behind.
+fn far_next(kept: &[u32], k: usize) -> bool
+    requires { ⌜ 7 < length (now kept) ⌝ }
+    ensures { λ r. ⌜ r ≡ (eqb (getD (now (kept .entry)) 4 0) (getD (now (kept .entry)) 7 0) && ltb k (getD (now (kept .entry)) 6 0)) ⌝ }
+{
+    if kept[4] != kept[7] {
+        return false;
+    }
+    k < words::word(kept, 6)
 }
 
 // The first node of the worklist, k, off it: the next one comes first.
@@ -152,15 +189,14 @@ pub fn dequeue(counts: Counts, kept: &mut [u32], k: usize) -> bool
     ensures { λ r. ⌜ ((T : Tables) → Wrote (sized counts T) (now (kept .entry)) (dequeued (sized counts T) (ofWords (sized counts T) (now (kept .entry)))) r (now (kept .exit))) ⌝ }
 {
     if kept[4] == 0 {
-        kept[5] = counts.nodes as u32;
-        return true;
+        return drain(counts, kept);
     }
-    let second = words::word(kept, 6);
-    if second != 0 {
-        if second / 32 >= (counts.nodes + 31) / 32 {
+    if far_next(kept, k) {
+        let q = words::word(kept, 6) / 32;
+        if q >= (counts.nodes + 31) / 32 {
             return false;
         }
-        return advance(counts, kept, k, second / 32);
+        return advance(counts, kept, k, q);
     }
     // the word of k first, as the groups take longer to read
     if kept[8 + counts.nodes + k / 32] != 0 {

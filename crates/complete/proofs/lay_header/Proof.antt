@@ -39,6 +39,9 @@ slice-write-kept-6 c = simp length-set (omega arith)
 slice-write-kept-7 : tie.Need-slice-write-kept-7
 slice-write-kept-7 c = simp length-set (omega arith)
 
+slice-write-kept-8 : tie.Need-slice-write-kept-8
+slice-write-kept-8 c = simp length-set (omega arith)
+
 -- src/lib.rt:84:1
 same-length : tie.Need-same-length
 same-length c = search needs
@@ -59,5 +62,6 @@ lay-header-spec =
     cast-kept
     slice-write-kept-6
     slice-write-kept-7
+    slice-write-kept-8
     same-length
     returns)

@@ -84,9 +84,6 @@ cast-kept c = omega (arith, trailing-le 32 (getD (c .before .before .before .bef
 slice-write-kept-3 : tie.Need-slice-write-kept-3
 slice-write-kept-3 c = simp length-set (rw (c .before .before .before .regroup .kept .1 .0) (simp length-set (header-within (c .before .before .before .before .before .before .before .before .before .before .args .counts) _ (c .before .before .before .before .before .before .before .before .before .before .pre .2) 5 (omega arith))))
 
-slice-write-kept-4 : tie.Need-slice-write-kept-4
-slice-write-kept-4 c = simp length-set (rw (c .before .before .before .regroup .kept .1 .0) (simp length-set (header-within (c .before .before .before .before .before .before .before .before .before .before .args .counts) _ (c .before .before .before .before .before .before .before .before .before .before .pre .2) 6 (omega arith))))
-
 -- src/lib.rt:139:1
 same-length : tie.Need-same-length
 same-length c = simp length-set (simp length-set at (c .before .before .before .regroup .kept .1 .0))
@@ -117,6 +114,5 @@ advance-spec =
     slice-write-kept-2
     cast-kept
     slice-write-kept-3
-    slice-write-kept-4
     same-length
     returns-3)

@@ -398,9 +398,9 @@ fn compare_kept(counts: Counts, kept: &[u32], checker: &rust::Checker<'_>) -> Co
     let rust_truths: Vec<u32> = view.truths.iter().map(|&truth| truth.into()).collect();
     agree("kept truths", "Rust", &truths, &rust_truths)?;
     let first = usize::from(kept[5] as usize != counts.nodes);
-    let second = usize::from(kept[6] != 0);
+    let remembered = usize::from(kept[6] != 0 || kept[7] != 0);
     let pending = first
-        + second
+        + remembered
         + kept[4] as usize
         + worklist
             .iter()
