@@ -1,7 +1,7 @@
 -- The parts of a step and of the walk's start that one call makes.
 -- Assumes nothing.
 use Prim.Native.Nat.{ℕ, _*_}
-use mathlib.Core.Bool.{Bool, _&&_}
+use mathlib.Core.Bool.{Bool, cond, _&&_}
 use mathlib.Core.Option.{Option, some}
 use lib.Dec.{eqb}
 use lib.ListN.{getD}
@@ -20,6 +20,10 @@ waiting T m e = andThen (behind (nodeCount T) (e .worklist) m) (λ w. some (with
 -- node m, which was the first
 unfoldable pub putBehind : Tables → ℕ → Evaluation → Option Evaluation
 putBehind T m e = andThen (andThen (behind (nodeCount T) (e .worklist) m) (λ v. some (remembering m v))) (λ w. some (withWorklist e w))
+
+-- where node m enters, node o behind the first: m itself, or the first that it comes before
+unfoldable pub otherBehind : Tables → ℕ → ℕ → Evaluation → Option Evaluation
+otherBehind T m o e = cond (eqb o m) (waiting T m e) (putBehind T o e)
 
 -- the lowest member of word q in the place of the first
 unfoldable pub advancedTo : Tables → ℕ → Evaluation → Option Evaluation

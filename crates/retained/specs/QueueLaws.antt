@@ -11,7 +11,7 @@ use lib.Count.{trailingZeros}
 use lib.Dec.{eqb, ltb}
 use lib.ListN.{length, getD, set, take, drop, length-set, length-drop}
 use lib.Seq.{getD-set-same, getD-set-other, length-take-le}
-use borrow.Author.Tests.{eq-eqb, ne-eqb, lt-ltb, le-ltb}
+use borrow.Author.Tests.{eqb-true, eq-eqb, ne-eqb, lt-ltb, le-ltb}
 use Rattle.words.specs.BitLaws.{trailing-below}
 use Rattle.words.specs.Next.{next}
 use Rattle.words.specs.NextLaws.{next-hit}
@@ -33,7 +33,7 @@ use Rattle.kept_laws.specs.Written.{written-same, of-written, length-written, p
 use Rattle.kept_laws.specs.Wrote.{Wrote, beside-same, beside-written, wrote-some, wrote-none, wrote-true, wrote-false, wrote-then, mid-holds}
 use Rattle.retained.specs.Member.{digitPut, bitPut, memberPut, Put}
 use Rattle.retained.specs.MemberLaws.{put-wrote}
-use Rattle.retained.specs.Changes.{waiting, putBehind, advancedTo, drained, dequeued}
+use Rattle.retained.specs.Changes.{waiting, putBehind, otherBehind, advancedTo, drained, dequeued}
 use Rattle.retained.specs.Groups.{regrouped}
 use Rattle.words.specs.TakeOffLaws.{digit-off}
 
@@ -121,60 +121,72 @@ module _ (T : Tables) (ws : List ℕ) (long : used T ≤ length ws) where
         not-then none h = refl
         not-then (some o) h = let z : _≡_ {A = ℕ} 0 1 = cc in absurd (omega arith)
 
-  -- ---- the first behind a lower one
+  -- ---- one of the two behind the other
 
-  module _ (m : ℕ) (ok : Bool) (mid : List ℕ) (h : Wrote T ws (waiting T m e) ok mid) where
-    pub put-behind-none : ok ≡ false → Wrote T ws (putBehind T m e) false mid
+  module _ (m o : ℕ) (ok : Bool) (mid : List ℕ) (h : Wrote T ws (waiting T o e) ok mid) where
+    put-none : ok ≡ false → putBehind T o e ≡ none
     unfolding waiting putBehind
-    put-behind-none p =
-        let r = wrote-false T ws (waiting T m e) mid ok h p in
-        wrote-none T ws (putBehind T m e) mid (not-then (behind (nodeCount T) w m) (r .0)) (r .1)
+    put-none p = not-then (behind (nodeCount T) w o) (wrote-false T ws (waiting T o e) mid ok h p .0)
       where
-        not-then : (o : Option Worklist) → andThen o (λ v. some (withWorklist e v)) ≡ none
-            → andThen (andThen o (λ v. some (remembering m v))) (λ v. some (withWorklist e v)) ≡ none
+        not-then : (v : Option Worklist) → andThen v (λ v. some (withWorklist e v)) ≡ none
+            → andThen (andThen v (λ v. some (remembering o v))) (λ v. some (withWorklist e v)) ≡ none
         not-then none q = refl
-        not-then (some o) q = let z : _≡_ {A = ℕ} 0 1 = cc in absurd (omega arith)
+        not-then (some v) q = let z : _≡_ {A = ℕ} 0 1 = cc in absurd (omega arith)
 
-    module _ (p : ok ≡ true) where
-      waited : (v : Worklist) × (behind (nodeCount T) w m ≡ some v) × (mid ≡ written T ws (withWorklist e v))
+    pub put-behind-none : ok ≡ false → Wrote T ws (otherBehind T m o e) false mid
+    unfolding otherBehind
+    put-behind-none p =
+        let r = wrote-false T ws (waiting T o e) mid ok h p in
+        wrote-none T ws (otherBehind T m o e) mid (go (eqb o m) refl) (r .1)
+      where
+        go : (b : Bool) → eqb o m ≡ b → cond b (waiting T m e) (putBehind T o e) ≡ none
+        go true i = ap (λ x. waiting T x e) (sym (eqb-true o m i)) ∙ wrote-false T ws (waiting T o e) mid ok h p .0
+        go false i = put-none p
+
+    pub put-behind-same : ok ≡ true → o ≡ m → Wrote T ws (otherBehind T m o e) true mid
+    unfolding otherBehind
+    put-behind-same p i = rw (eq-eqb o m i) (rw (p, i) at h)
+
+    module _ (p : ok ≡ true) (ne : o ≡ m → ⊥) where
+      waited : (v : Worklist) × (behind (nodeCount T) w o ≡ some v) × (mid ≡ written T ws (withWorklist e v))
       unfolding waiting
       waited =
-          let r = wrote-true T ws (waiting T m e) mid ok h p in
-          let t = then-some (behind (nodeCount T) w m) (λ v. some (withWorklist e v)) (r .0) (r .1) in
+          let r = wrote-true T ws (waiting T o e) mid ok h p in
+          let t = then-some (behind (nodeCount T) w o) (λ v. some (withWorklist e v)) (r .0) (r .1) in
           (t .0, t .1, r .2 ∙ ap (written T ws) (sym (some-is (withWorklist e (t .0)) (r .0) (t .2))))
 
       abbrev v : Worklist
       v = waited .0
 
       v-fits : Fits T (withWorklist e v)
-      v-fits = worklist-fits T e v (behind-is (nodeCount T) w m v (waited .1) .0) fits
+      v-fits = worklist-fits T e v (behind-is (nodeCount T) w o v (waited .1) .0) fits
 
       holds : ofWords T mid ≡ withWorklist e v
       holds = mid-holds T ws mid (withWorklist e v) long v-fits (waited .2)
 
-      remembered : (r : Worklist) → remembering m v ≡ r → putBehind T m e ≡ some (withWorklist e r)
-      unfolding putBehind
-      remembered r i = rw (waited .1, i)
+      remembered : (r : Worklist) → remembering o v ≡ r → otherBehind T m o e ≡ some (withWorklist e r)
+      unfolding otherBehind putBehind
+      remembered r i = rw (ne-eqb o m ne, waited .1, i)
 
       far-is : getD mid 6 0 ≡ v .far
       far-is = get-far T mid ∙ ap (λ d. d .worklist .far) holds
 
-      pub put-behind-far : m < getD mid 6 0 → Wrote T ws (putBehind T m e) true mid
+      pub put-behind-far : o < getD mid 6 0 → Wrote T ws (otherBehind T m o e) true mid
       unfolding remembering
-      put-behind-far l = wrote-some T ws (putBehind T m e) mid (withWorklist e v) (remembered v (rw (lt-ltb m (v .far) (rw far-is at l)))) (waited .2)
+      put-behind-far l = wrote-some T ws (otherBehind T m o e) mid (withWorklist e v) (remembered v (rw (lt-ltb o (v .far) (rw far-is at l)))) (waited .2)
 
-      pub put-behind-done : getD mid 6 0 ≤ m → Wrote T ws (putBehind T m e) true (set (set mid 6 m) 7 (getD (set mid 6 m) 4 0))
+      pub put-behind-done : getD mid 6 0 ≤ o → Wrote T ws (otherBehind T m o e) true (set (set mid 6 o) 7 (getD (set mid 6 o) 4 0))
       unfolding remembering
       put-behind-done l =
-          let size : getD (set mid 6 m) 4 0 ≡ v .others .size =
-          getD-set-other mid 6 4 m 0 (λ z. omega arith) ∙ get-worklist-size T mid ∙ ap (λ d. d .worklist .others .size) holds in
-          wrote-some T ws (putBehind T m e) (set (set mid 6 m) 7 (getD (set mid 6 m) 4 0)) (withWorklist e (withFar v m (v .others .size)))
-          (remembered (withFar v m (v .others .size)) (rw (le-ltb m (v .far) (rw far-is at l))))
-          (ap (set (set mid 6 m) 7) size ∙ ap (λ y. set (set y 6 m) 7 (v .others .size)) (waited .2) ∙ put-far T ws long (withWorklist e v) v-fits m (v .others .size))
+          let size : getD (set mid 6 o) 4 0 ≡ v .others .size =
+          getD-set-other mid 6 4 o 0 (λ z. omega arith) ∙ get-worklist-size T mid ∙ ap (λ d. d .worklist .others .size) holds in
+          wrote-some T ws (otherBehind T m o e) (set (set mid 6 o) 7 (getD (set mid 6 o) 4 0)) (withWorklist e (withFar v o (v .others .size)))
+          (remembered (withFar v o (v .others .size)) (rw (le-ltb o (v .far) (rw far-is at l))))
+          (ap (set (set mid 6 o) 7) size ∙ ap (λ y. set (set y 6 o) 7 (v .others .size)) (waited .2) ∙ put-far T ws long (withWorklist e v) v-fits o (v .others .size))
 
   -- ---- a node enters
 
-  pub queue-behind : (m : ℕ) (ok : Bool) (after : List ℕ) → getD ws 5 0 < m → Wrote T ws (waiting T m e) ok after → Wrote T ws (entered T m e) ok after
+  queue-behind : (m : ℕ) (ok : Bool) (after : List ℕ) → getD ws 5 0 < m → Wrote T ws (waiting T m e) ok after → Wrote T ws (entered T m e) ok after
   unfolding entered withNode waiting
   queue-behind m ok after l h = rw (lt-ltb (w .first) m (rw (get-first T ws) at l)) h
 
@@ -236,9 +248,17 @@ module _ (T : Tables) (ws : List ℕ) (long : used T ≤ length ws) where
     pub queue-alone : m < first → nodeCount T ≤ first → Wrote T ws (entered T m e) (eqb first (nodeCount T)) (set ws 5 m)
     queue-alone l n = rw is (queue-first m (omega (arith, is)) (omega (arith, is)))
 
-    pub queue-before : (ok : Bool) (after : List ℕ) → m < first → first < nodeCount T → Wrote T (set ws 5 m) (putBehind T first (ofWords T (set ws 5 m))) ok after
-        → Wrote T ws (entered T m e) ok after
-    queue-before ok after l n h = queue-lower m (omega (arith, is)) ok after (omega (arith, is)) (rw is at h)
+    -- the other of the two goes on
+    module _ (other : ℕ) (mid : List ℕ) (ok : Bool) (after : List ℕ) (h : Wrote T mid (otherBehind T m other (ofWords T mid)) ok after) where
+      pub queue-before : m < first → first < nodeCount T → mid ≡ set ws 5 m → other ≡ first → Wrote T ws (entered T m e) ok after
+      unfolding otherBehind
+      queue-before l n p q =
+          queue-lower m (omega (arith, is)) ok after (omega (arith, is))
+          (rw (ne-eqb (getD ws 5 0) m (λ z. omega (arith, is))) at (rw (p, q ∙ is) at h))
+
+      pub queue-after : first < m → mid ≡ ws → other ≡ m → Wrote T ws (entered T m e) ok after
+      unfolding otherBehind
+      queue-after l p q = queue-behind m ok after (omega (arith, is)) (rw (eq-eqb m m refl) at (rw (p, q) at h))
 
   -- ---- the first leaves
 

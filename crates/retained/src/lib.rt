@@ -14,7 +14,7 @@ ghost use Rattle.kept.specs.Step.{entered, supportMoved, rootTurned};
 ghost use Rattle.kept_laws.specs.Given.{groupsAt, usedBy, sized, supplied};
 ghost use Rattle.kept_laws.specs.Wrote.{Wrote};
 ghost use Rattle.retained.specs.Member.{Put, bitPut, memberPut};
-ghost use Rattle.retained.specs.Changes.{missingTurned, missingMoved, presenceTurned, waiting, putBehind, advancedTo, drained, dequeued};
+ghost use Rattle.retained.specs.Changes.{missingTurned, missingMoved, presenceTurned, waiting, otherBehind, advancedTo, drained, dequeued};
 ghost use Rattle.retained.specs.Groups.{regrouped};
 use theory::Counts;
 
@@ -80,18 +80,22 @@ fn wait(counts: Counts, kept: &mut [u32], m: usize) -> bool
     true
 }
 
-// Node m, which was the first, waits behind a lower one. It is remembered with the number of those that wait then, unless one further on is.
-fn put_behind(counts: Counts, kept: &mut [u32], m: usize) -> bool
-    requires { ⌜ Limited counts × (m < counts .nodes) × (usedBy counts ≤ length (now kept)) ⌝ }
-    ensures { λ r. ⌜ ((T : Tables) → Wrote (sized counts T) (now (kept .entry)) (putBehind (sized counts T) m (ofWords (sized counts T) (now (kept .entry)))) r (now (kept .exit))) ⌝ }
+// Where node m enters, `other` waits behind the first: m itself, or the first that it comes before. That one is remembered with the number
+// of those that wait then, unless one further on is. One call of `wait`: with two the walk has too few registers.
+fn put_behind(counts: Counts, kept: &mut [u32], m: usize, other: usize) -> bool
+    requires { ⌜ Limited counts × (other < counts .nodes) × (usedBy counts ≤ length (now kept)) ⌝ }
+    ensures { λ r. ⌜ ((T : Tables) → Wrote (sized counts T) (now (kept .entry)) (otherBehind (sized counts T) m other (ofWords (sized counts T) (now (kept .entry)))) r (now (kept .exit))) ⌝ }
 {
-    if !wait(counts, kept, m) {
+    if !wait(counts, kept, other) {
         return false;
     }
-    if words::word(kept, 6) > m {
+    if other == m {
         return true;
     }
-    kept[6] = m as u32;
+    if words::word(kept, 6) > other {
+        return true;
+    }
+    kept[6] = other as u32;
     kept[7] = kept[4];
     true
 }
@@ -102,17 +106,18 @@ pub fn queue(counts: Counts, kept: &mut [u32], m: usize) -> bool
     ensures { λ r. ⌜ ((T : Tables) → Wrote (sized counts T) (now (kept .entry)) (entered (sized counts T) m (ofWords (sized counts T) (now (kept .entry)))) r (now (kept .exit))) ⌝ }
 {
     let first = words::word(kept, 5);
-    if m > first {
-        return wait(counts, kept, m);
+    let mut other = m;
+    if m <= first {
+        if m == first {
+            return true;
+        }
+        kept[5] = m as u32;
+        if first >= counts.nodes {
+            return first == counts.nodes;
+        }
+        other = first;
     }
-    if m == first {
-        return true;
-    }
-    kept[5] = m as u32;
-    if first >= counts.nodes {
-        return first == counts.nodes;
-    }
-    put_behind(counts, kept, first)
+    put_behind(counts, kept, m, other)
 }
 
 // The first word from q on that has members by the groups.
