@@ -3,11 +3,10 @@
 use Prim.Native.Nat.{ℕ, _<_}
 use native.Mathlib.Omega.{arith}
 use mathlib.Core.Path.{_≡_, refl, ap, ap₂, sym, _∙_, fun-ext}
-use mathlib.Core.Bool.{Bool, true, false, not, cond, _&&_, _||_, or-false}
+use mathlib.Core.Bool.{Bool, true, false, not, _&&_, _||_, or-false}
 use mathlib.Core.List.{List}
 use mathlib.Core.Option.{some}
 use lib.Dec.{ltb}
-use lib.ListN.{set}
 use borrow.Author.Tests.{lt-ltb}
 use Rattle.base.specs.Each.{Each, each-map, map-agree}
 use Rattle.base.specs.Rising.{rising-step}
@@ -18,14 +17,12 @@ use Rattle.theory.specs.declared.Node.{Node}
 use Rattle.theory.specs.declared.Node.the-variants.{Atom, False, Implies, And, Or, Unknown}
 use Rattle.words.specs.Changed.{unlike}
 use Rattle.kept.specs.Tabulate.{updated, updated-same}
-use Rattle.kept.specs.CountedSet.{andThen}
 use Rattle.kept.specs.CountedSetLaws.{unlike-false, unlike-true}
 use Rattle.kept.specs.Worklist.{Worklist, Lists}
 use Rattle.kept.specs.WorklistLaws.{lists-agree, first-is, first-left}
-use Rattle.kept.specs.Tables.{Tables, nodeCount, operandsAt, sound, readersAt}
-use Rattle.kept.specs.Evaluation.{Evaluation, truthAt, present, truthWord, held, truth, support, falseRoot, summary}
-use Rattle.kept.specs.Parts.{withTruths}
-use Rattle.kept.specs.Step.{readersUpdated, took, tookAt, settled, settledFrom, seen, stepAt, step}
+use Rattle.kept.specs.Tables.{Tables, nodeCount, operandsAt, sound}
+use Rattle.kept.specs.Evaluation.{Evaluation, truthAt, present, held, truth, support, falseRoot, summary}
+use Rattle.kept.specs.Step.{took, settled, seen, stepAt, step}
 use Rattle.kept.specs.Consistent.{Consistent, operands-lower, atom-lower}
 use Rattle.kept.specs.SeenLaws.{seen-sound}
 use Rattle.kept.specs.HeldLaws.{truth-held, present-held, truths-held}

@@ -70,22 +70,18 @@ behind-is n w m r e =
     put : CountedSet → Worklist
     put o = record { first = w .first; far = w .far; farSize = w .farSize; others = o; groups = inserted 32 (w .groups) (m / 32) }
 
--- what is remembered is no part of it
+-- what is remembered is no part of its words, nor of the first
+far-is : (b : Bool) (w : Worklist) (a s : ℕ) → let r = cond b w (withFar w a s) in Alike w r × (r .first ≡ w .first)
+far-is true w a s = (record { members = refl; groups = refl }, refl)
+far-is false w a s = (record { members = refl; groups = refl }, refl)
+
 remembering-is : (m : ℕ) (w : Worklist) → Alike w (remembering m w) × (remembering m w .first ≡ w .first)
 unfolding remembering
-remembering-is m w = go (ltb m (w .far))
-  where
-    go : (b : Bool) → let r = cond b w (withFar w m (w .others .size)) in Alike w r × (r .first ≡ w .first)
-    go true = (record { members = refl; groups = refl }, refl)
-    go false = (record { members = refl; groups = refl }, refl)
+remembering-is m w = far-is (ltb m (w .far)) w m (w .others .size)
 
 forgotten-is : (w : Worklist) → Alike w (forgotten w) × (forgotten w .first ≡ w .first)
 unfolding forgotten
-forgotten-is w = go (eqb (w .farSize) 0)
-  where
-    go : (b : Bool) → let r = cond b w (withFar w 0 0) in Alike w r × (r .first ≡ w .first)
-    go true = (record { members = refl; groups = refl }, refl)
-    go false = (record { members = refl; groups = refl }, refl)
+forgotten-is w = far-is (eqb (w .farSize) 0) w 0 0
 
 -- a node enters: above k, if it and the first are
 module _ (n : ℕ) (w : Worklist) (m : ℕ) (r : Worklist) where
