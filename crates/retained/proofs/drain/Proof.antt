@@ -27,7 +27,7 @@ same-length c = search needs
 
 -- src/lib.rt:168:9
 returns : tie.Need-returns
-returns c = let g = c .before .before .before in λ T. drain-none (sized (g .args .counts) T) (g .args .kept .now) (g .pre .1) (c .if1 .taken)
+returns c = let g = c .before .before .before in λ T. drain-none (sized (g .args .counts) T) (g .args .kept .now) (g .pre .1) (omega (arith, c .if1 .taken))
 
 -- src/lib.rt:170:5
 slice-write-kept-2 : tie.Need-slice-write-kept-2
@@ -43,7 +43,7 @@ same-length-2 c = search needs
 
 -- src/lib.rt:162:1
 returns-2 : tie.Need-returns-2
-returns-2 c = let g = c .before .before .before in λ T. drain-far (sized (g .args .counts) T) (g .args .kept .now) (g .pre .1) (c .if1 .left)
+returns-2 c = let g = c .before .before .before in λ T. drain-far (sized (g .args .counts) T) (g .args .kept .now) (g .pre .1) (λ e. omega (arith, c .if1 .left, e))
 
 pub drain-spec : {M : Type 1} → statement M
 drain-spec =

@@ -1,3 +1,4 @@
+use native.Mathlib.Omega.{arith}
 use borrow.Author.Tests.{eq-eqb, ne-eqb}
 use lib.ListN.{getD}
 use borrow.Author.Needs.{needs}
@@ -17,7 +18,7 @@ shared-slice-read-if1-2 c = search needs
 
 -- src/lib.rt:181:9
 returns : tie.Need-returns
-returns c = rw (ne-eqb (getD (c .before .before .before .before .args .kept .now) 4 0) (getD (c .before .before .before .before .args .kept .now) 7 0) (c .if1 .taken))
+returns c = rw (ne-eqb (getD (c .before .before .before .before .args .kept .now) 4 0) (getD (c .before .before .before .before .args .kept .now) 7 0) (λ e. omega (arith, c .if1 .taken, e)))
 
 -- src/lib.rt:183:9
 word-requires : tie.Need-word-requires
@@ -25,7 +26,7 @@ word-requires c κs = search needs
 
 -- src/lib.rt:176:1
 returns-2 : tie.Need-returns-2
-returns-2 c = rw (eq-eqb (getD (c .before .before .before .before .before .args .kept .now) 4 0) (getD (c .before .before .before .before .before .args .kept .now) 7 0) (c .before .if1 .left), c .word .ensures .0)
+returns-2 c = rw (eq-eqb (getD (c .before .before .before .before .before .args .kept .now) 4 0) (getD (c .before .before .before .before .before .args .kept .now) 7 0) (omega (arith, c .before .if1 .left)), c .word .ensures .0)
 
 pub far-next-spec : {M : Type 1} → statement M
 far-next-spec =
