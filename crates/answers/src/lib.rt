@@ -1,4 +1,6 @@
 // The answer of a public call as one u64, for a host: host/tight.h names the fields.
+#![tactic(auto)]
+
 ghost use Rattle.std.specs.Prelude.{◌≡◌, ◌<◌};
 ghost use Rattle.kept.specs.Outcome.{accepted};
 ghost use Rattle.verdict.specs.Told.{verdict_as};

@@ -1,4 +1,6 @@
 // Runs the public calls on document 01's figures: checks kept or fresh at the threshold, each buffer a word short, refusals 9, 15, 16 and 17 with the words of the kept evaluation after 17. A label and the answer, a line each.
+#![tactic(auto)]
+
 ghost use Rattle.std.specs.Prelude.{◌≤◌};
 
 use evaluate::Plan;
@@ -343,7 +345,7 @@ fn lent() {
 // ---- refusal 17
 
 // A word of a lent buffer that is changed before a check.
-#[derive(Drop)]
+#[derive(Clone, Copy)]
 pub enum Damage {
     Node(usize, u32),
     Operand(usize, u32),

@@ -1,4 +1,6 @@
 // The plan's first half: classes of nodes, and the producers of roots. A port of tight/compile.rs.
+#![tactic(auto)]
+
 ghost use Rattle.std.specs.Prelude.{◌≡◌, ◌++◌, ◌+◌, ◌*◌, ◌<◌, ◌≤◌, length, get_or, drop};
 ghost use Rattle.theory.specs.Node.{node_at};
 ghost use Rattle.theory.specs.NodeClass.{is_false};
@@ -17,7 +19,7 @@ ghost use Rattle.compile.specs.ProducerLaws.{bodied};
 use theory::{Admission, Counts, Node, Refusal};
 
 // One root's producer: its head's atom, its body's node + 1 or 0 without body, its root's node, 0 for a normal head and 1 for a choice.
-#[derive(Drop)]
+#[derive(Clone, Copy)]
 pub struct Producer {
     pub head: usize,
     pub body: usize,
@@ -25,7 +27,7 @@ pub struct Producer {
     pub kind: usize,
 }
 
-#[derive(Drop)]
+#[derive(Clone, Copy)]
 pub enum Produced {
     Nothing,
     Made(Producer),
@@ -33,14 +35,14 @@ pub enum Produced {
 }
 
 // The atom of a node, if it is an Atom.
-#[derive(Drop)]
+#[derive(Clone, Copy)]
 pub enum Found {
     At(usize),
     Nowhere,
 }
 
 // What kind of head a node is, and of which atom.
-#[derive(Drop)]
+#[derive(Clone, Copy)]
 pub enum Headed {
     Normal(usize),
     Choice(usize),

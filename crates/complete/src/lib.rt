@@ -1,4 +1,6 @@
 // The fresh check: `complete` and `summarize` of tight/evaluate.rs on the words of a kept evaluation.
+#![tactic(auto)]
+
 ghost use Rattle.std.specs.Prelude.{◌≡◌, cond, ℕ, ◌+◌, ◌*◌, ◌<◌, ◌≤◌, length, get_or};
 ghost use Rattle.formula.specs.Passes.{Within};
 ghost use Rattle.theory.specs.Admission.{or_else, first_refusal};

@@ -1,10 +1,12 @@
 // The lines of the program `tightcheck`: a theory file read from one descriptor, what is printed of it written to another.
+#![tactic(auto)]
+
 ghost use Rattle.std.specs.Prelude.{◌≡◌, ◌≤◌, length, take};
 ghost use Rattle.console.specs.Printed.{held, printed_of};
 
 use theory::Refusal;
 
-#[derive(Drop)]
+#[derive(Clone, Copy)]
 pub enum Input {
     Bytes(usize),
     Failed,

@@ -1,4 +1,6 @@
 // Runs the lines of `tightcheck` on the files of data/, and on two descriptors that cannot be read.
+#![tactic(auto)]
+
 use libc::STDOUT_FILENO;
 
 fn show(name: &[u8]) {

@@ -1,1 +1,2 @@
 // No code: the three demands, stated of the public calls' outcomes.
+#![tactic(auto)]

@@ -1,4 +1,6 @@
 // The dependencies of a theory one by one, and the derivation of ranks over them: `each_dependency` and `derive_ranks` of tight/compile.rs.
+#![tactic(auto)]
+
 ghost use Rattle.std.specs.Prelude.{◌≡◌, ◌+◌, ◌*◌, ◌<◌, ◌≤◌, take};
 ghost use Rattle.theory.specs.Node.{node_at};
 ghost use Rattle.graph.specs.Derive.{derive};
@@ -15,7 +17,7 @@ use kahn::Derivation;
 use theory::{Counts, Node};
 
 // Where the next dependency is looked for: a node and one of its operands while node is a node, then a root position.
-#[derive(Drop)]
+#[derive(Clone, Copy)]
 pub struct Cursor {
     pub node: usize,
     pub slot: usize,
@@ -23,7 +25,7 @@ pub struct Cursor {
 }
 
 // The next dependency, from its source to its target, or a place without one.
-#[derive(Drop)]
+#[derive(Clone, Copy)]
 pub enum Dependency {
     Next(usize, usize, Cursor),
     Skip(Cursor),
@@ -151,7 +153,7 @@ pub fn next_dependency(
 }
 
 // How many dependencies are laid, and where the next one is looked for; none is left once it is done.
-#[derive(Drop)]
+#[derive(Clone, Copy)]
 pub struct Laying {
     pub laid: usize,
     pub cursor: Cursor,

@@ -1,4 +1,6 @@
 // How the kept candidate and the new one differ: the first pass of `update` in tight/evaluate.rs.
+#![tactic(auto)]
+
 ghost use Rattle.std.specs.Prelude.{◌≡◌, true, ◌+◌, ◌*◌, ◌/◌, ◌<◌, ◌≤◌, length, get_or};
 ghost use Rattle.theory.specs.Limits.{Limited};
 ghost use Rattle.words.specs.Sets.{member};
@@ -14,7 +16,7 @@ ghost use Rattle.difference.specs.Found.{Found};
 use theory::Counts;
 
 // At how many atoms the candidates differ, and the pairs outside which they do not.
-#[derive(Drop)]
+#[derive(Clone, Copy)]
 pub struct Differing {
     pub changes: usize,
     pub first: usize,

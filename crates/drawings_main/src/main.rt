@@ -1,4 +1,6 @@
 // Runs the files of document 01's drawings, its refusals and its slips, and prints their texts.
+#![tactic(auto)]
+
 use libc::STDOUT_FILENO;
 
 fn show(file: &[u8]) {

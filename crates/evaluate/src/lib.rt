@@ -1,4 +1,6 @@
 // The public check of a candidate (`check` and `evaluate` of tight/evaluate.rs): kept where a check of this stamp is held and few atoms changed, else fresh.
+#![tactic(auto)]
+
 ghost use Rattle.std.specs.Prelude.{◌≡◌, ◌+◌, ◌*◌, ◌/◌, ◌≤◌, max, length};
 ghost use Rattle.formula.specs.Passes.{Within};
 ghost use Rattle.words.specs.Sets.{member};
@@ -18,14 +20,14 @@ use theory::{Admission, Counts, Refusal};
 use update::Checked;
 
 // A plan's stamp and how many producers it has.
-#[derive(Drop)]
+#[derive(Clone, Copy)]
 pub struct Plan {
     pub stamp: u32,
     pub producers: usize,
 }
 
 // Few atoms changed, and only in pairs of words `first` to `end`: the check is kept. Or it is fresh.
-#[derive(Drop)]
+#[derive(Clone, Copy)]
 pub enum Change {
     Few(usize, usize),
     Fresh,

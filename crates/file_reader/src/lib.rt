@@ -1,5 +1,7 @@
 // A reader that keeps the file slice and its offset: thin functions over the by-value functions of crate `record`.
 // The borrow checker covers no function over such a struct, so `open`, `candidate` and `candidate_from` are proved by hand.
+#![tactic(auto)]
+
 ghost use Rattle.std.specs.Prelude.{◌≡◌, ◌+◌, ◌*◌, ◌/◌, ◌<◌, ◌≤◌, length};
 ghost use Rattle.base.specs.Each.{Each};
 ghost use Rattle.record.specs.Number.{numbers};

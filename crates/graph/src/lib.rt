@@ -1,1 +1,2 @@
 // No code: graphs, their paths and cycles, Kahn's removal, and least ranks. Crate `kahn` derives the ranks.
+#![tactic(auto)]

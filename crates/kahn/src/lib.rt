@@ -1,4 +1,6 @@
 // The derivation of ranks by Kahn's removal, over edges linked in a lent work area of n vertices and m edges; specs/Area has its sections.
+#![tactic(auto)]
+
 ghost use Rattle.std.specs.Prelude.{◌≡◌, not, List, ◌+◌, ◌*◌, ◌<◌, ◌≤◌, eqb, ltb, length, get_or};
 ghost use Rattle.base.specs.Places.{lowest};
 ghost use Rattle.graph.specs.Edge.{Edge, edge, one};
@@ -11,7 +13,7 @@ ghost use Rattle.kahn.specs.Draining.{Draining};
 ghost use Rattle.kahn.specs.Answer.{answered};
 
 // Whether ranks were derived; if not, the lowest atom on or behind a cycle.
-#[derive(Drop)]
+#[derive(Clone, Copy)]
 pub enum Derivation {
     Ranks,
     Cycle(usize),

@@ -1,4 +1,6 @@
 // Where the sections of a kept evaluation begin in its words; beside it, without code, what the loops of a check keep and what holds of a check on any words.
+#![tactic(auto)]
+
 ghost use Rattle.std.specs.Prelude.{◌≡◌};
 ghost use Rattle.theory.specs.Limits.{Limited};
 ghost use Rattle.kept_laws.specs.Given.{support_at, candidate_at, missing_at, false_roots_at, groups_at};

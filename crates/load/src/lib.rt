@@ -1,4 +1,6 @@
 // The tables and the candidates of a theory file, written into lent buffers.
+#![tactic(auto)]
+
 ghost use Rattle.std.specs.Prelude.{◌≡◌, ◌++◌, ◌+◌, ◌*◌, ◌<◌, ◌≤◌, length, drop, replicate};
 ghost use Rattle.theory.specs.Limits.{Limited, Lent};
 ghost use Rattle.record.specs.Number.{number, numbers};
@@ -16,14 +18,14 @@ ghost use Rattle.load.specs.Room.{Fits, Stands};
 use record::{Cursor, Judged, Mark, Summary, Values};
 use theory::Refusal;
 
-#[derive(Drop)]
+#[derive(Clone, Copy)]
 pub enum Loaded {
     Sound(Summary),
     Refused(Refusal),
 }
 
 // What a record adds to the node table.
-#[derive(Drop)]
+#[derive(Clone, Copy)]
 pub enum Added {
     Nothing,
     Node(u32, u32, u32),

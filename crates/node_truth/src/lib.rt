@@ -1,4 +1,6 @@
 // The truth of a node as a check reads it, from the words of a kept evaluation: `node_truth!` of tight/evaluate.rs.
+#![tactic(auto)]
+
 ghost use Rattle.std.specs.Prelude.{◌≡◌, true, false, not, ◌+◌, ◌*◌, ◌-◌, ◌<◌, ◌≤◌, length};
 ghost use Rattle.std.proofs.Math.Option.{some};
 ghost use Rattle.theory.specs.Limits.{Limited};
@@ -11,7 +13,7 @@ ghost use Rattle.node_truth.specs.Blocks.{AllBelow, AllAre};
 use theory::{Counts, Node};
 
 // A node's truth. Stray: an entry met there is outside its table, or an operand is not below the node.
-#[derive(Drop)]
+#[derive(Clone, Copy)]
 pub enum Seen {
     True,
     False,

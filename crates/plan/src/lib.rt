@@ -1,4 +1,6 @@
 // The planner's public calls: everything is judged in the work area alone, then buffers 4, 5 and 6 are written.
+#![tactic(auto)]
+
 ghost use Rattle.std.specs.Prelude.{◌≡◌, ◌+◌, ◌*◌, ◌<◌, ◌≤◌, length, take, drop, ◌++◌};
 ghost use Rattle.base.specs.Front.{front};
 ghost use Rattle.theory.specs.Limits.{limits_of, Limited};
@@ -17,14 +19,14 @@ use kahn::Derivation;
 use theory::{Admission, Counts, Refusal};
 
 // The number of producers of an accepted theory, or the refusal.
-#[derive(Drop)]
+#[derive(Clone, Copy)]
 pub enum Planning {
     Planned(usize),
     Refused(Refusal),
 }
 
 // How long the lent buffers are.
-#[derive(Drop)]
+#[derive(Clone, Copy)]
 pub struct Lengths {
     pub nodes: usize,
     pub operands: usize,

@@ -1,4 +1,6 @@
 // Plans document 01's example and the drawings that a plan refuses: producers, ranks and reader lists, a line each, or the refusal.
+#![tactic(auto)]
+
 use plan::Planning;
 use readers::{Reader, Reading};
 use theory::{Counts, Refusal};

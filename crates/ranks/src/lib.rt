@@ -1,4 +1,6 @@
 // Ranks: the rank check, the dependencies of a theory, and the derivation. A port of the second half of tight/compile.rs.
+#![tactic(auto)]
+
 ghost use Rattle.std.specs.Prelude.{◌≡◌, ◌++◌, ◌+◌, ◌<◌, ◌≤◌, eqb, length, get_or, take, drop};
 ghost use Rattle.theory.specs.Node.{node_at};
 ghost use Rattle.theory.specs.NodeRank.{node_highests};

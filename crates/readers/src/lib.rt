@@ -1,4 +1,6 @@
 // The reader lists: who reads each node's truth. A port of tight/readers.rs.
+#![tactic(auto)]
+
 ghost use Rattle.std.specs.Prelude.{◌≡◌, ℕ, ◌+◌, ◌*◌, ◌^◌, ◌<◌, ◌≤◌, ◌&&◌, leb, length, get_or};
 ghost use Rattle.readers.specs.Reader.{node_reader, producer_reader, root_reader, reading_of};
 ghost use Rattle.readers.specs.declared.Reading.TheVariants.{Producer, Root};
@@ -16,10 +18,10 @@ ghost use Rattle.theory.specs.WellFormed.{NodeTables};
 use theory::{Counts, Node};
 
 // A packed reader: its tag in the top two bits, its index below.
-#[derive(Drop)]
+#[derive(Clone, Copy)]
 pub struct Reader(pub u64);
 
-#[derive(Drop)]
+#[derive(Clone, Copy)]
 pub enum Reading {
     Node(usize),
     Producer(usize),

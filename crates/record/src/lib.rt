@@ -1,4 +1,6 @@
 // The theory file: a cursor by value goes over it record by record.
+#![tactic(auto)]
+
 ghost use Rattle.std.specs.Prelude.{◌≡◌, true, false, ◌+◌, ◌*◌, ◌<◌, ◌≤◌, length, get_or, leb};
 ghost use Rattle.theory.specs.Admission.{all_below};
 ghost use Rattle.theory.specs.Limits.{Limited};
@@ -14,7 +16,7 @@ ghost use Rattle.record.specs.Bounds.{Within};
 use theory::{Admission, Counts, Refusal};
 
 // What a record is.
-#[derive(Drop)]
+#[derive(Clone, Copy)]
 pub enum Mark {
     Theory,
     Atom,
@@ -28,7 +30,7 @@ pub enum Mark {
 }
 
 // Where a record begins, how many came before it, the stage and the counts they lead to, and where the candidates begin.
-#[derive(Drop)]
+#[derive(Clone, Copy)]
 pub struct Cursor {
     pub at: usize,
     pub records: usize,
@@ -38,28 +40,28 @@ pub struct Cursor {
     pub first: usize,
 }
 
-#[derive(Drop)]
+#[derive(Clone, Copy)]
 pub enum Step {
     Next(Cursor),
     Refused(Refusal),
 }
 
 // The counts of a sound file, the number of its candidates, and the place of the first one.
-#[derive(Drop)]
+#[derive(Clone, Copy)]
 pub struct Summary {
     pub counts: Counts,
     pub candidates: usize,
     pub first: usize,
 }
 
-#[derive(Drop)]
+#[derive(Clone, Copy)]
 pub enum Judged {
     Sound(Summary),
     Refused(Refusal),
 }
 
 // The values of a record.
-#[derive(Drop)]
+#[derive(Clone, Copy)]
 pub struct Values {
     pub start: usize,
     pub count: usize,

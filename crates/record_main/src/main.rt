@@ -1,4 +1,6 @@
 // Document 01's example file, judged, loaded and read back, then the small inputs of its refusals 1 to 8: a line for each.
+#![tactic(auto)]
+
 ghost use Rattle.std.specs.Prelude.{◌≡◌, ◌≤◌};
 ghost use Rattle.record.specs.File.{theory_file, verdict};
 

@@ -1,4 +1,6 @@
 // A run: a file's bytes become the text that the user reads, on the run's own zeroed tables for 512 atoms, 1,024 nodes, 1,024 operand entries and 512 roots.
+#![tactic(auto)]
+
 ghost use Rattle.std.specs.Prelude.{◌≡◌, ◌+◌, ◌^◌, ◌<◌, ◌≤◌, length, take, drop, replicate, ◌++◌};
 ghost use Rattle.record.specs.File.{theory_file, verdict};
 ghost use Rattle.record.specs.Layout.{values_of, record_end};
@@ -19,7 +21,7 @@ use theory::{Counts, Refusal};
 use update::Checked;
 
 // Where the next candidate stands in the file, and where the text goes on.
-#[derive(Drop)]
+#[derive(Clone, Copy)]
 pub struct Next {
     pub place: usize,
     pub at: usize,

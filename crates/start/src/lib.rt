@@ -1,4 +1,6 @@
 // The start of a kept check: the new candidate with its missing atoms, and the atom nodes of changed atoms on the worklist (the second pass of `update` in tight/evaluate.rs).
+#![tactic(auto)]
+
 ghost use Rattle.std.specs.Prelude.{◌≡◌, true, ℕ, ◌+◌, ◌*◌, ◌<◌, ◌≤◌, length};
 ghost use Rattle.base.specs.Places.{places};
 ghost use Rattle.formula.specs.Satisfaction.{Interpretation};

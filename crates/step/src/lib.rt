@@ -1,4 +1,6 @@
 // One step of a kept check: the lowest node of the worklist gets its truth, and its readers are told if that changed.
+#![tactic(auto)]
+
 ghost use Rattle.std.specs.Prelude.{◌≡◌, Bool, ◌+◌, ◌*◌, ◌<◌, ◌≤◌, length, get_or, set};
 ghost use Rattle.std.proofs.Math.Option.{some};
 ghost use Rattle.theory.specs.Limits.{Limited};
@@ -18,7 +20,7 @@ use readers::Reader;
 use theory::Counts;
 
 // Nothing was on the worklist; a node was gone over; or refusal 17, at a place.
-#[derive(Drop)]
+#[derive(Clone, Copy)]
 pub enum Taking {
     Idle,
     Took(usize),

@@ -1,4 +1,6 @@
 // The tests of a check before 17: 3 by counts, 9, 15, 16.
+#![tactic(auto)]
+
 ghost use Rattle.std.specs.Prelude.{◌≡◌, ℕ, ◌≤◌, length};
 ghost use Rattle.theory.specs.Limits.{Limited};
 ghost use Rattle.kept.specs.SetOf.{words64};
@@ -10,7 +12,7 @@ ghost use Rattle.tests.specs.Lent.{buffers_by, Sizes};
 use theory::{Admission, Counts, Refusal};
 
 // How long the lent buffers are.
-#[derive(Drop)]
+#[derive(Clone, Copy)]
 pub struct Lengths {
     pub candidate: usize,
     pub nodes: usize,

@@ -1,4 +1,6 @@
 // The lines that the user reads, as bytes in a lent slice. A text is written as far as it fits; each function answers where the text goes on.
+#![tactic(auto)]
+
 ghost use Rattle.std.specs.Prelude.{◌≡◌, [], ◌∷◌, ◌++◌, ◌^◌, ◌≤◌, length};
 ghost use Rattle.theory.specs.Refusal.{told};
 ghost use Rattle.verdict.specs.Told.{verdict_as};
@@ -10,7 +12,7 @@ use theory::{Counts, Refusal};
 use verdict::Verdict;
 
 // A refusal's numbers: `fields` of them, 2 or 3.
-#[derive(Drop)]
+#[derive(Clone, Copy)]
 pub struct Told {
     pub number: usize,
     pub place: usize,

@@ -1,11 +1,13 @@
 // The theory: the view of a node in lent tables, the limits, and the admission of lent tables.
+#![tactic(auto)]
+
 ghost use Rattle.std.specs.Prelude.{◌≡◌, ◌+◌, ◌*◌, ◌<◌, ◌≤◌, length};
 ghost use Rattle.theory.specs.Node.{node_at, Small, span};
 ghost use Rattle.theory.specs.Limits.{limits_of, Limited, Lent};
 ghost use Rattle.theory.specs.Admission.{all_below, group_admission, node_admission, nodes_admission, roots_admission, admission, span_end};
 
 // Why a call is refused; specs/Refusal gives each its number and its values.
-#[derive(Drop)]
+#[derive(Clone, Copy)]
 pub enum Refusal {
     BadKind(usize),
     CutRecord(usize),
@@ -27,7 +29,7 @@ pub enum Refusal {
 }
 
 // A theory's stamp and the sizes of its lent tables.
-#[derive(Drop)]
+#[derive(Clone, Copy)]
 pub struct Counts {
     pub stamp: u32,
     pub atoms: usize,
@@ -36,13 +38,13 @@ pub struct Counts {
     pub roots: usize,
 }
 
-#[derive(Drop)]
+#[derive(Clone, Copy)]
 pub enum Admission {
     Admitted,
     Refused(Refusal),
 }
 
-#[derive(Drop)]
+#[derive(Clone, Copy)]
 pub enum Node {
     Atom(usize),
     False,

@@ -1,4 +1,6 @@
 // What a host in C or Rust links (host/tight.h): planning and checking a theory of full size on lent slices. Each call answers one u64, whose fields `answers` defines.
+#![tactic(auto)]
+
 ghost use Rattle.std.specs.Prelude.{◌≡◌};
 ghost use Rattle.plan.specs.Outcome.{plan_outcome, certify_outcome};
 ghost use Rattle.kept.specs.Outcome.{outcome};

@@ -1,4 +1,6 @@
 // What a host in C or Rust links for theory files (host/tight.h). A library of its own: each then has one caller of the check, into which the compiler lays it.
+#![tactic(auto)]
+
 ghost use Rattle.std.specs.Prelude.{◌≡◌};
 ghost use Rattle.run.specs.Run.{running, run_of};
 

@@ -1,4 +1,6 @@
 // Prints what a run says of the theory file on standard input, at most 65,536 bytes of it.
+#![tactic(auto)]
+
 use libc::{STDIN_FILENO, STDOUT_FILENO};
 
 fn main() {

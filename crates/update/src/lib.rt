@@ -1,4 +1,6 @@
 // A kept check: the walk from the kept candidate to the new one (`update` of tight/evaluate.rs).
+#![tactic(auto)]
+
 ghost use Rattle.std.specs.Prelude.{◌≡◌, suc, ◌+◌, ◌*◌, ◌/◌, ◌≤◌, ltb, length};
 ghost use Rattle.formula.specs.Passes.{Within};
 ghost use Rattle.words.specs.Next.{next};
@@ -22,7 +24,7 @@ use theory::{Counts, Refusal};
 use verdict::{Judged, Verdict};
 
 // The verdict and the number of nodes gone over, or the refusal.
-#[derive(Drop)]
+#[derive(Clone, Copy)]
 pub enum Checked {
     Accepted(Verdict, usize),
     Refused(Refusal),

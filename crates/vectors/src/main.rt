@@ -1,4 +1,6 @@
 // Replays stored theory files through a run and prints their texts. `stdin` holds each file behind its length in four bytes, low byte first; `stdout` is what the Rust answers of them.
+#![tactic(auto)]
+
 use libc::{STDIN_FILENO, STDOUT_FILENO};
 
 fn show(file: &[u8]) {

@@ -1,4 +1,6 @@
 // The verdict that a kept evaluation tells.
+#![tactic(auto)]
+
 ghost use Rattle.std.specs.Prelude.{◌≡◌, cond, ℕ, ◌<◌, ◌≤◌, ltb, length};
 ghost use Rattle.std.proofs.Math.Option.{some, none};
 ghost use Rattle.theory.specs.Limits.{Limited};
@@ -12,7 +14,7 @@ ghost use Rattle.verdict.specs.Told.{judged_of, lookup_of};
 use theory::Counts;
 
 // Not a model, with its first false root's node; residual, with the lowest atom that nothing produces; stable.
-#[derive(Drop)]
+#[derive(Clone, Copy)]
 pub enum Verdict {
     NotModel(usize),
     Residual(usize),
@@ -20,14 +22,14 @@ pub enum Verdict {
 }
 
 // Stray is refusal 17: a set and its count, or its table, are at odds, or the root named is no node.
-#[derive(Drop)]
+#[derive(Clone, Copy)]
 pub enum Judged {
     Sure(Verdict),
     Stray,
 }
 
 // The lowest member of a set with a count.
-#[derive(Drop)]
+#[derive(Clone, Copy)]
 pub enum Lookup {
     Empty,
     At(usize),

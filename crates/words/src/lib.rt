@@ -1,4 +1,6 @@
 // Words lent in slices: read as numbers, and as sets of bits.
+#![tactic(auto)]
+
 ghost use Rattle.std.specs.Prelude.{◌≡◌, ◌*◌, ◌<◌, max, min, length, get_or, replicate};
 ghost use Rattle.base.specs.Places.{places};
 ghost use Rattle.words.specs.Bit.{bit};
