@@ -1,0 +1,7 @@
+use native.Mathlib.Omega.{arith}
+use Rattle.record.specs.Number.{number}
+use Rattle.record.proofs.number.Goals as goal
+
+pub returns : goal.returns
+unfolding number
+returns c = record { value = omega arith; upper_bound = omega arith }

@@ -1,0 +1,10 @@
+use Rattle.record.specs.Record.{unless}
+use Rattle.record.proofs.unless.Goals as goal
+
+pub returns-then-test : goal.returns-then-test
+unfolding unless
+returns-then-test c = rw c.if-test.true
+
+pub returns-else-test : goal.returns-else-test
+unfolding unless
+returns-else-test c = rw c.if-test.false
