@@ -1,0 +1,7 @@
+use lib.Bits.{or_shifted}
+use Rattle.readers.specs.Reader.{packed}
+use Rattle.readers.proofs.Reader.root.Goals as goal
+
+pub returns : goal.returns
+unfolding packed
+returns c = or_shifted 3 62 c.args.i c.requires

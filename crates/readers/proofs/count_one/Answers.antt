@@ -1,0 +1,7 @@
+use mathlib.Core.Path.{refl}
+use Rattle.readers.specs.Pass.{counted}
+use Rattle.readers.proofs.count_one.Goals as goal
+
+pub returns : goal.returns
+unfolding counted
+returns c = refl

@@ -1,0 +1,14 @@
+use Prim.Native.Nat.{◌-◌}
+use mathlib.Core.Path.{◌≡◌, ◌∙◌}
+use lib.ListN.{length}
+use Rattle.readers.specs.Joined.{joined}
+use Rattle.readers.specs.Incidences.{items_at}
+use Rattle.readers.specs.Pass.{Placeable, placed, placed_all}
+use Rattle.readers.proofs.Pass.{Left}
+use Rattle.readers.proofs.place_nodes.Given as goal
+
+abbrev pub invariant-loop-k : goal.invariant-loop-k
+invariant-loop-k l = (length l.table ≡ length l.initial.table) × Left (λ x. Placeable x.slot) (λ x. placed x.slot x.entry) (joined (items_at l.counts l.nodes l.operands) l.k (l.counts.nodes - l.k)) l.table (placed_all (joined (items_at l.counts l.nodes l.operands) 0 l.counts.nodes) l.initial.table)
+
+abbrev pub decreases-loop-k : goal.decreases-loop-k
+decreases-loop-k l = l.counts.nodes - l.k
