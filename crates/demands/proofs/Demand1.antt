@@ -77,10 +77,10 @@ sound-leaves : (s : Summary) (t : Contents) (b : load.Tables) (r : Refusal) → 
 sound-leaves s t b r e = go (ways.loads s t b)
   where
     go : ways.Loads s t b → (loading_sound s t b).left ≡ b
-    go (ways.nodes-short n q) = ap (λ o. o.left) q
+    go (ways.nodes_short n q) = ap (λ o. o.left) q
     go (ways.operands_short n o q) = ap (λ o. o.left) q
-    go (ways.roots-short n o m q) = ap (λ o. o.left) q
-    go (ways.all-long w q) =
+    go (ways.roots_short n o m q) = ap (λ o. o.left) q
+    go (ways.all_long w q) =
         let f : loads.Sound s ≡ loads.Refused r = sym (ap (λ o. o.answer) q) ∙ e in
         let z : ◌≡◌ {A = ℕ} 0 1 = cc in absurd (omega arith)
 

@@ -187,7 +187,7 @@ module _ (file : List ℕ) (f : TheoryFile) (enc : Encodes file f) where
     unfolding own_plan
     lent =
         let plan : PlannedTables T = plan-planned s.counts (tables_loaded file).nodes (tables_loaded file).operands (tables_loaded file).roots _ _ _ _ p made.planned in
-        let own = room made.few-atoms made.loaded in
+        let own = room made.few_atoms made.loaded in
         let wrote = plan_long s.counts (tables_loaded file).nodes (tables_loaded file).operands (tables_loaded file).roots (replicate 2048 0) (replicate 512 0) (replicate 6658 0) (replicate 15376 0) in
         record {
           within = (loaded_plannable file s own_tables made.loaded).within;
@@ -195,8 +195,8 @@ module _ (file : List ℕ) (f : TheoryFile) (enc : Encodes file f) where
           operands_long = plan.node_tables.operands_long;
           roots_long = plan.root_table.roots_long;
           producers_long = omega (arith, wrote.0, own.roots_long, length-replicate {A = ℕ} 2048 0);
-          readers_long = omega (arith, wrote.1, made.few-atoms, own.nodes_long, own.operands_long, own.roots_long, length-replicate {A = ℕ} 6658 0);
-          kept_long = omega (arith, made.few-atoms, own.nodes_long, own.roots_long);
+          readers_long = omega (arith, wrote.1, made.few_atoms, own.nodes_long, own.operands_long, own.roots_long, length-replicate {A = ℕ} 6658 0);
+          kept_long = omega (arith, made.few_atoms, own.nodes_long, own.roots_long);
           stamp = refl;
         }
 
@@ -223,7 +223,7 @@ module _ (file : List ℕ) (f : TheoryFile) (enc : Encodes file f) where
       pub never_refused : is_accepted (answer_to 64 8 T (candidate_of T c) ws) ≡ true
       never_refused =
           let size : length ws ≡ 4112 = length_series T (replicate 4112 0) (map (candidate_of T) (take i cs)) ∙ length-replicate {A = ℕ} 4112 0 in
-          check.let-pass (ap (tests T (candidate_of T c)) size ∙ passes T c below 4112 lent)
+          check.let_pass (ap (tests T (candidate_of T c)) size ∙ passes T c below 4112 lent)
 
       line_tells : LineTells f i c (get_or lines i [])
       unfolding check_line
@@ -273,12 +273,12 @@ module _ (file : List ℕ) (f : TheoryFile) (enc : Encodes file f) where
           sym (load_refused (theory_file file) s sounds few _ _ refl r l ∙ file_sound file enc.short s sounds) ∙ ap refused_line same
 
       go : ways.Loads s t own_tables → Told file
-      go (ways.nodes-short n q) = many_nodes f enc few (omega (arith, n, length-replicate {A = ℕ} 3072 0)) (text 1 q)
+      go (ways.nodes_short n q) = many_nodes f enc few (omega (arith, n, length-replicate {A = ℕ} 3072 0)) (text 1 q)
       go (ways.operands_short n o q) =
           many_operands f enc few (omega (arith, n, length-replicate {A = ℕ} 3072 0)) (omega (arith, o, length-replicate {A = ℕ} 1024 0)) (text 2 q)
-      go (ways.roots-short n o m q) =
+      go (ways.roots_short n o m q) =
           many_roots f enc few (omega (arith, n, length-replicate {A = ℕ} 3072 0)) (omega (arith, o, length-replicate {A = ℕ} 1024 0)) (omega (arith, m, length-replicate {A = ℕ} 512 0)) (text 3 q)
-      go (ways.all-long w q) =
+      go (ways.all_long w q) =
           let f : loads.Refused r ≡ loads.Sound s = sym l ∙ ap (λ g. (loading g own_tables).answer) holds ∙ ap (λ o. o.answer) q in
           let z : ◌≡◌ {A = ℕ} 0 1 = cc in absurd (omega arith)
 

@@ -123,11 +123,11 @@ module _ (t : Counts) (nodes operands classes roots : List ℕ) where
     next_node es l e =
         record {
           grown =
-              before_node (c.node + 1) c.root (range.roots-later l) (omega arith) ∙ gather_more (edges_into t.atoms nodes operands classes) c.node
+              before_node (c.node + 1) c.root (range.roots_later l) (omega arith) ∙ gather_more (edges_into t.atoms nodes operands classes) c.node
               ∙ ap (λ xs. gather (edges_into t.atoms nodes operands classes) c.node ++ xs) e
               ∙ rw (before_slot l, append_assoc);
-          range = record { node_in = omega arith; root_in = range.root_in; slot_in = omega arith; slots_over = λ h. refl; roots_later = λ h. range.roots-later l };
-          less = omega (arith, start_next nodes c.node, start_below nodes (c.node + 1) t.nodes (omega arith), range.slot-in);
+          range = record { node_in = omega arith; root_in = range.root_in; slot_in = omega arith; slots_over = λ h. refl; roots_later = λ h. range.roots_later l };
+          less = omega (arith, start_next nodes c.node, start_below nodes (c.node + 1) t.nodes (omega arith), range.slot_in);
         }
 
     -- a node without operands in the table
@@ -165,7 +165,7 @@ module _ (t : Counts) (nodes operands classes roots : List ℕ) where
 
       pub next_last : n ≤ c.slot → Moved t nodes operands classes roots c (record { node = c.node + 1; slot = 0; root = c.root }) []
       next_last h =
-          let same : c.slot ≡ n = omega (arith, range.slot-in, slots_are (node_at nodes c.node) g) in
+          let same : c.slot ≡ n = omega (arith, range.slot_in, slots_are (node_at nodes c.node) g) in
           next_node [] l (group_edges (node_at nodes c.node) g ∙ rw (group_slots (node_at nodes c.node) g c.slot, same, append-nil))
 
       pub next_slot : (o : ℕ) → positive classes c.node ≡ true → c.slot < n → s + n ≤ length operands → o ≡ get_or operands (s + c.slot) 0
@@ -185,7 +185,7 @@ module _ (t : Counts) (nodes operands classes roots : List ℕ) where
                   append-nil,
                   append_assoc,
                 );
-            range = record { node_in = range.node_in; root_in = range.root_in; slot_in = omega (arith, slots_are (node_at nodes c.node) g); slots_over = λ q. absurd (omega arith); roots_later = range.roots-later };
+            range = record { node_in = range.node_in; root_in = range.root_in; slot_in = omega (arith, slots_are (node_at nodes c.node) g); slots_over = λ q. absurd (omega arith); roots_later = range.roots_later };
             less = omega (arith, start_next nodes c.node, start_below nodes (c.node + 1) t.nodes (omega arith), slots_are (node_at nodes c.node) g);
           }
 
@@ -197,7 +197,7 @@ module _ (t : Counts) (nodes operands classes roots : List ℕ) where
     next_root l h =
         record {
           grown = rw (le-ltb c.node t.nodes l, gather_more (edges_of t.atoms nodes operands classes roots) c.root, append_assoc);
-          range = record { node_in = range.node_in; root_in = omega arith; slot_in = range.slot-in; slots_over = range.slots-over; roots_later = λ q. absurd (omega arith) };
+          range = record { node_in = range.node_in; root_in = omega arith; slot_in = range.slot_in; slots_over = range.slots_over; roots_later = λ q. absurd (omega arith) };
           less = omega arith;
         }
 

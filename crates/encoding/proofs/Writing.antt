@@ -122,7 +122,7 @@ module _ (file : List ℕ) (bytes : Below 256 file) where
         → x < c.counts.nodes → Rest c
     unfolding rest_bytes flat_map
     with_root x o p k e h =
-        let none = r.no-nodes (omega arith) in
+        let none = r.no_nodes (omega arith) in
         record {
           nodes = [];
           roots = x ∷ r.roots;
@@ -137,8 +137,8 @@ module _ (file : List ℕ) (bytes : Below 256 file) where
         → SoundCandidate c.counts.atoms xs → Rest c
     unfolding rest_bytes flat_map
     with_candidate_lem xs p k e h =
-        let none = r.no-nodes (omega arith) in
-        let none' = r.no-roots (omega arith) in
+        let none = r.no_nodes (omega arith) in
+        let none' = r.no_roots (omega arith) in
         record {
           nodes = [];
           roots = [];

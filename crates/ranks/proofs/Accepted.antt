@@ -155,7 +155,7 @@ module _ (t : Counts) (nodes operands classes roots : List ℕ) (well : WellForm
               rw (high_group k os (omega arith) (node_at nodes k) refl g p)
               (each_greatest H (R (t.atoms + k)) os
               (each_both (λ o. o < k) (λ o. dependency.positive classes o ≡ true → Up (edge (t.atoms + o) (t.atoms + k))) (λ o. H o ≤ R (t.atoms + k)) os
-              (λ o q up. operand ih o q up) lower (sources.by-group os g (positive_is k (omega arith) ∙ p))))
+              (λ o q up. operand ih o q up) lower (sources.by_group os g (positive_is k (omega arith) ∙ p))))
 
           go : (c : Bool) → is_positive (class (f k)) ≡ c → ((o : ℕ) → o < k → H o ≤ R (t.atoms + o)) → H k ≤ R (t.atoms + k)
           go true p ih = by (node_at nodes k) refl

@@ -68,8 +68,8 @@ module _ (P : Edge → Type 0) where
   node_each A operands classes k (Atom a) h = (h.by_atom a refl, tt)
   node_each A operands classes k False h = tt
   node_each A operands classes k (Implies l r) h = tt
-  node_each A operands classes k (And s c) h = group_each A classes k (span operands s c) (positive classes k) (h.by-group (span operands s c) of_and)
-  node_each A operands classes k (Or s c) h = group_each A classes k (span operands s c) (positive classes k) (h.by-group (span operands s c) of_or)
+  node_each A operands classes k (And s c) h = group_each A classes k (span operands s c) (positive classes k) (h.by_group (span operands s c) of_and)
+  node_each A operands classes k (Or s c) h = group_each A classes k (span operands s c) (positive classes k) (h.by_group (span operands s c) of_or)
   node_each A operands classes k Unknown h = tt
 
   each_group : (A : ℕ) (classes : List ℕ) (k : ℕ) (os : List ℕ) (b : Bool) → Each P (cond b (operand_edges A classes (A + k) os) []) → b ≡ true → Each (λ o. positive classes o ≡ true → P (edge (A + o) (A + k))) os

@@ -241,7 +241,7 @@ module _ (t : Counts) (nodes operands classes roots : List ℕ) (well : WellForm
       })
     where
       best : Least t.atoms (dependencies t nodes operands classes roots) rs
-      best = graph.ranks-right t.atoms (t.atoms + t.nodes) (dependencies t nodes operands classes roots) (omega arith) rises rs e
+      best = graph.ranks_right t.atoms (t.atoms + t.nodes) (dependencies t nodes operands classes roots) (omega arith) rises rs e
 
       rule : (i : ℕ) → i < t.roots → (b : ℕ) (p : Producer) → Rule (produced nodes operands classes (get_or roots i 0)) b p → dependency.positive classes b ≡ true
           → highest (λ a. get_or rs a 0) (formula t nodes operands b) < get_or rs p.head 0
@@ -269,7 +269,7 @@ module _ (t : Counts) (nodes operands classes roots : List ℕ) (well : WellForm
   pub derived_least : (rs qs : List ℕ) → derive t.atoms (t.atoms + t.nodes) (dependencies t nodes operands classes roots) ≡ ranks rs
       → rank_check t nodes operands classes roots qs ≡ admission.Admitted → (a : ℕ) → a < t.atoms → get_or rs a 0 ≤ get_or qs a 0
   derived_least rs qs e q a l =
-      let best = graph.ranks-right t.atoms (t.atoms + t.nodes) (dependencies t nodes operands classes roots) (omega arith) rises rs e in
+      let best = graph.ranks_right t.atoms (t.atoms + t.nodes) (dependencies t nodes operands classes roots) (omega arith) rises rs e in
       omega (
         arith,
         best.atoms a l,
@@ -285,12 +285,12 @@ module _ (t : Counts) (nodes operands classes roots : List ℕ) (well : WellForm
   -- a cycle: no ranks are accepted, and the atom named is the lowest with predecessors left over
   pub cycle_stuck : (a : ℕ) → derive t.atoms (t.atoms + t.nodes) (dependencies t nodes operands classes roots) ≡ cycle a
       → Stuck t.atoms (t.atoms + t.nodes) (dependencies t nodes operands classes roots) a
-  cycle_stuck a e = graph.cycle-right t.atoms (t.atoms + t.nodes) (dependencies t nodes operands classes roots) (omega arith) rises a e
+  cycle_stuck a e = graph.cycle_right t.atoms (t.atoms + t.nodes) (dependencies t nodes operands classes roots) (omega arith) rises a e
 
   -- it is the lowest on or behind a positive cycle, and no other is named
   pub cycle_names : (a : ℕ) → (derive t.atoms (t.atoms + t.nodes) (dependencies t nodes operands classes roots) ≡ cycle a)
       ↔ LowestBehind t.atoms (dependencies t nodes operands classes roots) a
-  cycle_names a = cycles.cycle-names t.atoms (t.atoms + t.nodes) (dependencies t nodes operands classes roots) (omega arith) rises a
+  cycle_names a = cycles.cycle_names t.atoms (t.atoms + t.nodes) (dependencies t nodes operands classes roots) (omega arith) rises a
 
   pub cycle_exactly : ((a : ℕ) × (derive t.atoms (t.atoms + t.nodes) (dependencies t nodes operands classes roots) ≡ cycle a))
       ↔ ((rs : List ℕ) → rank_check t nodes operands classes roots rs ≡ admission.Admitted → ⊥)

@@ -47,14 +47,14 @@ module _ (file : List ℕ) (s : Summary) (p : ℕ) (f : PlannedFile file s p) wh
   fits : listed T ≤ 4112
   fits =
       let l = (loaded_own (theory_file file) s s own_tables f.sound f.loaded).1 in
-      omega (arith, f.few-atoms, l.nodes_long, l.roots_long, length-replicate {A = ℕ} 3072 0, length-replicate {A = ℕ} 512 0)
+      omega (arith, f.few_atoms, l.nodes_long, l.roots_long, length-replicate {A = ℕ} 3072 0, length-replicate {A = ℕ} 512 0)
 
   -- the text: two lines of the plan, and a line for each candidate
   pub run_text : text_of file ≡ (theory_line s.counts p ++ ranks_line (take s.counts.atoms (plan_made file s).ranks)) ++ check_lines T 0 cs (replicate 4112 0)
   run_text =
       sym
       (plan_accepted s.counts (tables_loaded file).nodes (tables_loaded file).operands (tables_loaded file).roots cs _ _ _ _ _ refl p f.planned
-      ∙ load-sound (theory_file file) s f.sound f.few-atoms _ _ refl s f.loaded
+      ∙ load-sound (theory_file file) s f.sound f.few_atoms _ _ refl s f.loaded
       ∙ file_sound file f.short s f.sound)
 
   -- the series of its checks is as demand 3 says

@@ -56,10 +56,10 @@ loaded_of s s' t b e = go (ways.loads s t b)
     no r q = let f : loads.Refused r ≡ loads.Sound s' = sym (ap (λ o. o.answer) q) ∙ e in let z : ◌≡◌ {A = ℕ} 0 1 = cc in omega arith
 
     go : ways.Loads s t b → (s ≡ s') × Lent s.counts (length b.nodes) (length b.operands) (length b.roots)
-    go (ways.nodes-short n q) = absurd (no _ q)
+    go (ways.nodes_short n q) = absurd (no _ q)
     go (ways.operands_short n o q) = absurd (no _ q)
-    go (ways.roots-short n o r q) = absurd (no _ q)
-    go (ways.all-long l q) = ((loaded_sound s' s t b e).0, l)
+    go (ways.roots_short n o r q) = absurd (no _ q)
+    go (ways.all_long l q) = ((loaded_sound s' s t b e).0, l)
 
 pub loaded_own : (f : File) (s s' : Summary) (b : tables.Tables) → verdict f ≡ judgment.Sound s → (loading f b).answer ≡ loads.Sound s'
     → (s ≡ s') × Lent s.counts (length b.nodes) (length b.operands) (length b.roots)

@@ -93,7 +93,7 @@ module _ (t : Counts) (nodes operands roots ps rs us ws : List ℕ) (j : RootsAd
   module _ (found : List ℕ) (d : derived t nodes operands roots ≡ ranks found) where
     found_accepted : rank_test found ≡ admission.Admitted
     unfolding derived
-    found_accepted = check.derived-accepted t nodes operands classes_of roots formed in_tables in_classes found d
+    found_accepted = check.derived_accepted t nodes operands classes_of roots formed in_tables in_classes found d
 
     found_long : length found ≡ t.atoms
     unfolding accepted_by
@@ -128,19 +128,19 @@ module _ (t : Counts) (nodes operands roots ps rs us ws : List ℕ) (j : RootsAd
         accepted = λ w. let f = derives_found w in certified_again f.0 f.1;
         least = λ w proposed c a l.
             let f = derives_found w in
-            omega (arith, rank_is f.0 f.1 a l, check.derived-least t nodes operands classes_of roots formed in_tables in_classes f.0 proposed f.1 ((certifies_is proposed).0 c) a l);
+            omega (arith, rank_is f.0 f.1 a l, check.derived_least t nodes operands classes_of roots formed in_tables in_classes f.0 proposed f.1 ((certifies_is proposed).0 c) a l);
         longest = λ w a l.
             let f = derives_found w in
-            rw (rank_is f.0 f.1 a l) (check.derived-longest t nodes operands classes_of roots formed in_tables in_classes f.0 f.1 a l);
+            rw (rank_is f.0 f.1 a l) (check.derived_longest t nodes operands classes_of roots formed in_tables in_classes f.0 f.1 a l);
         cycle_exactly = (
-          λ w proposed c. (check.cycle-exactly t nodes operands classes_of roots formed in_tables in_classes).0 (w.0, reports_cycle w.0 w.1) proposed ((certifies_is proposed).0 c),
-          λ f. let c = (check.cycle-exactly t nodes operands classes_of roots formed in_tables in_classes).1 (λ proposed r. f proposed ((certifies_is proposed).1 r)) in (c.0, cycle_reports c.0 c.1),
+          λ w proposed c. (check.cycle_exactly t nodes operands classes_of roots formed in_tables in_classes).0 (w.0, reports_cycle w.0 w.1) proposed ((certifies_is proposed).0 c),
+          λ f. let c = (check.cycle_exactly t nodes operands classes_of roots formed in_tables in_classes).1 (λ proposed r. f proposed ((certifies_is proposed).1 r)) in (c.0, cycle_reports c.0 c.1),
         );
         cycle_names = λ a. (
-          λ e. (check.cycle-names t nodes operands classes_of roots formed in_tables in_classes a).0 (reports_cycle a e),
-          λ w. cycle_reports a ((check.cycle-names t nodes operands classes_of roots formed in_tables in_classes a).1 w),
+          λ e. (check.cycle_names t nodes operands classes_of roots formed in_tables in_classes a).0 (reports_cycle a e),
+          λ w. cycle_reports a ((check.cycle_names t nodes operands classes_of roots formed in_tables in_classes a).1 w),
         );
-        left_over = λ a e. check.cycle-stuck t nodes operands classes_of roots formed in_tables in_classes a (reports_cycle a e);
+        left_over = λ a e. check.cycle_stuck t nodes operands classes_of roots formed in_tables in_classes a (reports_cycle a e);
       }
 
 -- all roots are admitted exactly if `plan` derives ranks or reports a positive cycle
