@@ -1,0 +1,9 @@
+use mathlib.Core.Path.{sym, ◌∙◌}
+use Rattle.load.proofs.Outcomes.{not_sound}
+use Rattle.load.proofs.load.Goals as goal
+
+pub load_sound-requires : goal.load_sound-requires
+load_sound-requires c = sym c.judge.ensures ∙ c.in-Sound.is
+
+pub returns-in-Refused : goal.returns-in-Refused
+returns-in-Refused c = not_sound _ _ _ (sym c.judge.ensures ∙ c.in-Refused.is)
