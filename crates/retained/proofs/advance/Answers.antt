@@ -17,13 +17,13 @@ pub overflow_add-m : goal.overflow_add-m
 overflow_add-m c = omega (arith, trailing_le 32 (get_or c.args.kept.now (8 + c.args.counts.nodes + c.args.q) 0), c.requires.0.nodes, c.requires.1)
 
 pub returns-then-m-k : goal.returns-then-m-k
-returns-then-m-k c = λ T. advance_low (sized c.args.counts T) c.args.kept.now c.requires.2 c.args.q c.requires.1 c.if-x-eq0.false (c.type_inv.kept (8 + c.args.counts.nodes + c.args.q)).fits (omega (arith, c.if-m-k.true, c.requires.3))
+returns-then-m-k c = λ T. advance_low (sized c.args.counts T) c.args.kept.now c.requires.2 c.args.q c.requires.1 c.if-x-eq0.false (c.slice_known-1.given (8 + c.args.counts.nodes + c.args.q)).fits (omega (arith, c.if-m-k.true, c.requires.3))
 
 pub bounds-kept-4 : goal.bounds-kept-4
 bounds-kept-4 c = rw c.regroup.auto.kept (simp length-set (header_within c.args.counts _ c.requires.2 4 (omega arith)))
 
 pub overflow_sub-kept : goal.overflow_sub-kept
-overflow_sub-kept c = rw c.regroup.ensures (rw (count_stays (bare c.args.counts) c.args.kept.now c.requires.2 c.args.q c.requires.1 c.if-x-eq0.false (c.type_inv.kept (8 + c.args.counts.nodes + c.args.q)).fits) c.requires.4)
+overflow_sub-kept c = rw c.regroup.ensures (rw (count_stays (bare c.args.counts) c.args.kept.now c.requires.2 c.args.q c.requires.1 c.if-x-eq0.false (c.slice_known-1.given (8 + c.args.counts.nodes + c.args.q)).fits) c.requires.4)
 
 pub bounds-kept-4-2 : goal.bounds-kept-4-2
 bounds-kept-4-2 c = rw c.regroup.auto.kept (simp length-set (header_within c.args.counts _ c.requires.2 4 (omega arith)))
@@ -38,4 +38,4 @@ pub shape_of-kept : goal.shape_of-kept
 shape_of-kept c = simp length-set (simp length-set at c.regroup.auto.kept)
 
 pub returns : goal.returns
-returns c = λ T. rw c.regroup.ensures (advance_done (sized c.args.counts T) c.args.kept.now c.requires.2 c.args.q c.requires.1 c.if-x-eq0.false (c.type_inv.kept (8 + c.args.counts.nodes + c.args.q)).fits (omega (arith, c.if-m-k.false, c.requires.3)))
+returns c = λ T. rw c.regroup.ensures (advance_done (sized c.args.counts T) c.args.kept.now c.requires.2 c.args.q c.requires.1 c.if-x-eq0.false (c.slice_known-1.given (8 + c.args.counts.nodes + c.args.q)).fits (omega (arith, c.if-m-k.false, c.requires.3)))
