@@ -31,19 +31,19 @@ use Rattle.kept.specs.Tables.{Tables, atom_count, node_count, root_count, root_a
 use Rattle.kept.specs.Seen.{seen_by}
 use Rattle.kept.specs.Evaluation.{Evaluation, truth, truth_at, truth_word, fresh}
 use Rattle.kept.specs.Verdict.{Verdict, not_model, residual, stable, verdict, judged, verdict_of}
-use Rattle.kept.specs.VerdictLaws.{verdict-fresh}
+use Rattle.kept.proofs.VerdictLaws.{verdict-fresh}
 use Rattle.kept.specs.Parts.{with_truths, with_worklist}
 use Rattle.kept.specs.Step.{Stepped, idle, took, fault, took_at, settled, settled_from, seen, step_at, step, readers_updated}
 use Rattle.kept.specs.Start.{walk_start}
 use Rattle.kept.specs.Walk.{Walked, ended, broken, after, onward, walk, walk_from, kept_walk}
 use Rattle.kept.specs.Check as check
 use Rattle.kept.specs.Check.{entry, seen_entry, node_entry, producer_entry, root_entry, tables_admission, fresh_result, kept_result, is_kept, result}
-use Rattle.kept.specs.EntryLaws.{root_within}
+use Rattle.kept.proofs.EntryLaws.{root_within}
 use Rattle.kept.specs.Candidate.{Candidate, atoms_of, listed_words}
 use Rattle.kept.specs.Layout.{of_words, listed}
 use Rattle.kept.specs.LayoutLaws.{Fits, room, fits_of}
 use Rattle.kept.specs.Tests.{Buffer, buffers, first_short, stamps, stray_bit, tests}
-use Rattle.kept.specs.TestLaws.{lent_long}
+use Rattle.kept.proofs.TestLaws.{lent_long}
 use Rattle.kept.specs.Outcome.{Answer, accepted, refused, concluded, outcome_at, outcome}
 use Rattle.kept_laws.specs.WalkEnds.{Rises}
 use Rattle.kept_laws.proofs.AnyWords.{kept_ends}

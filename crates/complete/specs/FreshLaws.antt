@@ -20,9 +20,9 @@ use Rattle.kept.specs.Tabulate.{tabulate, tabulate_at, length-tabulate}
 use Rattle.kept.specs.SetOf.{words32, all_inserted, set_of}
 use Rattle.kept.specs.SetOfLaws.{member-set_of}
 use Rattle.kept.specs.CountedSet.{counted_set}
-use Rattle.kept.specs.CountedSetLaws.{counted_agree}
+use Rattle.kept.proofs.CountedSetLaws.{counted_agree}
 use Rattle.kept.specs.Worklist.{filled, but_lowest, worklist_of}
-use Rattle.kept.specs.WorklistLaws.{lists_of, first-none}
+use Rattle.kept.proofs.WorklistLaws.{lists_of, first-none}
 use Rattle.kept.specs.Tables.{Tables, atom_count, node_count, root_count}
 use Rattle.kept.specs.Evaluation.{Evaluation, truth_at, present, no_members, truth_word, held, truth, support, false_root, summary, fresh}
 use Rattle.complete.specs.Phases.{lacks, begun, truths_laid, support_laid, missing_laid, roots_laid, summarised}

@@ -11,7 +11,7 @@ use Rattle.base.specs.Tests.{below_or}
 use Rattle.base.specs.Places.{Lowest}
 use Rattle.kept.specs.SetOfLaws.{length-set_of}
 use Rattle.kept.specs.CountedSet.{counted_set, with_member}
-use Rattle.kept.specs.CountedSetLaws.{counted_agree}
+use Rattle.kept.proofs.CountedSetLaws.{counted_agree}
 use Rattle.kept.specs.Tables.{Tables, atom_count, node_count, root_count, root_at}
 use Rattle.kept.specs.Evaluation.{Evaluation, truth_at, no_members, false_root}
 use Rattle.kept.specs.Parts.{with_support, with_false_roots}

@@ -24,10 +24,10 @@ use Rattle.kept.specs.Tables.{Tables, atom_count, root_count, root_at}
 use Rattle.kept.specs.Evaluation.{truth}
 use Rattle.kept.specs.Verdict.{Verdict, not_model, residual, stable, verdict}
 use Rattle.kept.specs.Naming.{FirstFalse, FirstUnproduced, AllTrue, Unproduced, AllProduced, Right}
-use Rattle.kept.specs.VerdictLaws.{verdict_right}
+use Rattle.kept.proofs.VerdictLaws.{verdict_right}
 use Rattle.kept.specs.Planned.{PlannedTables}
-use Rattle.kept.specs.PlannedLaws.{root_list, length_roots, root_listed}
-use Rattle.kept.specs.StableLaws.{theory_is, formulas_are, truth_sat, unproduced_is, is_unproduced, model_true, true_model, to_supported, from-supported}
+use Rattle.kept.proofs.PlannedLaws.{root_list, length_roots, root_listed}
+use Rattle.kept.proofs.StableLaws.{theory_is, formulas_are, truth_sat, unproduced_is, is_unproduced, model_true, true_model, to_supported, from-supported}
 use Rattle.kept.specs.Decides.{Decides, DecidesTheory}
 
 get_or-mapped : (f : ℕ → Formula) (xs : List ℕ) (i : ℕ) → i < length xs → get_or (map f xs) i falsum ≡ f (get_or xs i 0)

@@ -8,10 +8,10 @@ use Rattle.kept.specs.Evaluation.{held, summary}
 use Rattle.kept.specs.Step.{step_at, step}
 use Rattle.kept.specs.Consistent.{Consistent}
 use Rattle.kept.specs.Planned.{PlannedTables}
-use Rattle.kept.specs.PlannedLaws.{consistent}
-use Rattle.kept.specs.WorklistLaws.{first-none}
-use Rattle.kept.specs.StepLaws.{step_summary}
-use Rattle.kept.specs.StartLaws.{start_fresh}
+use Rattle.kept.proofs.PlannedLaws.{consistent}
+use Rattle.kept.proofs.WorklistLaws.{first-none}
+use Rattle.kept.proofs.StepLaws.{step_summary}
+use Rattle.kept.proofs.StartLaws.{start_fresh}
 use Rattle.kept.specs.PlainWalk.{PlainWalk}
 
 by_consistent : (T : Tables) → Consistent T → PlainWalk T

@@ -13,7 +13,7 @@ use Rattle.kept.specs.Tables.{Tables}
 use Rattle.kept.specs.Verdict.{residual}
 use Rattle.kept.specs.Decides.{DecidesTheory}
 use Rattle.kept.specs.Planned.{PlannedTables}
-use Rattle.kept.specs.StableLaws.{theory_is, formulas_are}
+use Rattle.kept.proofs.StableLaws.{theory_is, formulas_are}
 
 module _ (T : Tables) (plan : PlannedTables T) (I : Interpretation) where
   abbrev roots : List Root

@@ -20,16 +20,16 @@ use Rattle.kept.specs.Walk.{kept_walk}
 use Rattle.kept.specs.Changed.{changed_atoms}
 use Rattle.kept.specs.Check as check
 use Rattle.kept.specs.Check.{most, is_kept, result}
-use Rattle.kept.specs.CheckLaws.{gone_over, not-kept, is_kept_lem, result_zeroed, result_fresh}
+use Rattle.kept.proofs.CheckLaws.{gone_over, not-kept, is_kept_lem, result_zeroed, result_fresh}
 use Rattle.kept.specs.Consistent.{Consistent}
 use Rattle.kept.specs.Layout.{image, of_words, used}
 use Rattle.kept.specs.LayoutLaws.{Fits, fits_fresh, fits_zeroed, of_image, written-image, length-image, behind, zero-image}
 use Rattle.kept.specs.Candidate.{Candidate, atoms_of}
 use Rattle.kept.specs.Tests.{tests}
 use Rattle.kept.specs.Outcome.{accepted, refused, Outcome, concluded, outcome_at, outcome}
-use Rattle.kept.specs.TestLaws.{tests-not_17, atoms_within}
+use Rattle.kept.proofs.TestLaws.{tests-not_17, atoms_within}
 use Rattle.kept.specs.Planned.{PlannedTables}
-use Rattle.kept.specs.PlannedLaws.{consistent}
+use Rattle.kept.proofs.PlannedLaws.{consistent}
 use Rattle.kept.specs.Series.{is_accepted, zeroed_words, answer_to, series_words, last_accepted, anew, GoneOver, SeriesCheck, Demand3}
 use Rattle.kept.proofs.Walk.{walk}
 use Rattle.kept.proofs.Decides.{decided}

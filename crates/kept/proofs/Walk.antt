@@ -8,7 +8,7 @@ use Rattle.kept.specs.Evaluation.{fresh}
 use Rattle.kept.specs.Dirty.{dirty}
 use Rattle.kept.specs.Walk.{ended, kept_walk}
 use Rattle.kept.specs.Consistent.{Consistent}
-use Rattle.kept.specs.StartLaws.{kept_fresh}
+use Rattle.kept.proofs.StartLaws.{kept_fresh}
 
 module _ (T : Tables) (good : Consistent T) (I J : Interpretation) where
   pub walk : kept_walk T J (fresh T I) ≡ ended (places (dirty T I J) 0 (node_count T)) (fresh T J)

@@ -9,12 +9,12 @@ use Rattle.std.proofs.Math.Dec.{ltb}
 use Rattle.std.proofs.Math.ListN.{length, length-append}
 use Rattle.std.proofs.lemmas.List.{set_at}
 use Rattle.base.specs.Places.{places, places_none, count, count_none}
-use Rattle.kept.specs.PlaceLaws.{last_yes, last_no}
+use Rattle.kept.proofs.PlaceLaws.{last_yes, last_no}
 use Rattle.kept.specs.Tabulate.{tabulate, updated, updated_is, length-tabulate, tabulate_agree, tabulate-set}
 use Rattle.kept.specs.SetOf.{set_of, all_inserted}
 use Rattle.kept.specs.SetOfLaws.{ltb-suc}
 use Rattle.kept.specs.CountedSet.{counted_set, with_member}
-use Rattle.kept.specs.CountedSetLaws.{counted_agree, member-set}
+use Rattle.kept.proofs.CountedSetLaws.{counted_agree, member-set}
 use Rattle.kept.specs.Tables.{Tables, atom_count, head_at, body_at}
 use Rattle.kept.specs.Evaluation.{no_members, body_true, supports, support}
 

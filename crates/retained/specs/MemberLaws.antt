@@ -14,7 +14,7 @@ use Rattle.words.specs.BitLaws.{one_shift}
 use Rattle.words.specs.Changed.{unlike}
 use Rattle.words.specs.Sets.{member, inserted, removed}
 use Rattle.kept.specs.CountedSet.{and_then, CountedSet, moved, with_bit, with_member}
-use Rattle.kept.specs.CountedSetLaws.{unlike_same}
+use Rattle.kept.proofs.CountedSetLaws.{unlike_same}
 use Rattle.kept.specs.Tables.{Tables, atom_count, root_count}
 use Rattle.kept.specs.Evaluation.{Evaluation}
 use Rattle.kept.specs.Parts.{with_support, with_false_roots}

@@ -20,14 +20,14 @@ use Rattle.words.specs.Changed.{unlike}
 use Rattle.words.specs.Sets.{member}
 use Rattle.words.specs.Next.{next}
 use Rattle.readers.specs.AtomNodes.{is_atom_of, atom_nodes_of}
-use Rattle.kept.specs.PlaceLaws.{last_yes, last_no}
+use Rattle.kept.proofs.PlaceLaws.{last_yes, last_no}
 use Rattle.kept.specs.Tabulate.{updated, updated_is, updated_same, switched, switched_below, switched-from, switched_next}
 use Rattle.kept.specs.SetOf.{set_of}
 use Rattle.kept.specs.SetOfLaws.{ltb-suc, member_above, length-set_of}
 use Rattle.kept.specs.CountedSet.{and_then}
-use Rattle.kept.specs.CountedSetLaws.{unlike_false}
+use Rattle.kept.proofs.CountedSetLaws.{unlike_false}
 use Rattle.kept.specs.Worklist.{Worklist, worklist_of, Lists}
-use Rattle.kept.specs.WorklistLaws.{lists_agree, lists_of, node_entered}
+use Rattle.kept.proofs.WorklistLaws.{lists_agree, lists_of, node_entered}
 use Rattle.kept.specs.Tables.{Tables, atom_count, node_count, atom_nodes_at}
 use Rattle.kept.specs.Evaluation.{Evaluation, present, held, truth, support, false_root, summary, fresh}
 use Rattle.kept.specs.Step.{entered}
@@ -35,8 +35,8 @@ use Rattle.kept.specs.Start.{all_entered, atom_turned, atom_updated, walk_start}
 use Rattle.kept.specs.Dirty.{touched_node, touched, dirty}
 use Rattle.kept.specs.Walk.{ended, broken, walk_from, kept_walk}
 use Rattle.kept.specs.Consistent.{Consistent, atom_nodes_in, atom_lower}
-use Rattle.kept.specs.HeldLaws.{held_agree, present-held, candidate-held, entered-held}
-use Rattle.kept.specs.WalkLaws.{midway_start, waits_start, walk_midway}
+use Rattle.kept.proofs.HeldLaws.{held_agree, present-held, candidate-held, entered-held}
+use Rattle.kept.proofs.WalkLaws.{midway_start, waits_start, walk_midway}
 
 pub entered-append : (T : Tables) (e : Evaluation) (xs ys : List ℕ) → all_entered T e (xs ++ ys) ≡ and_then (all_entered T e xs) (λ d. all_entered T d ys)
 unfolding all_entered

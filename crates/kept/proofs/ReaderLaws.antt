@@ -17,19 +17,19 @@ use Rattle.base.specs.Places.{places, count, count_agree, count_most}
 use Rattle.readers.specs.Joined.{joined, joined-more}
 use Rattle.readers.specs.Reader.{node_reader, producer_reader, root_reader, reading_of, packed_read}
 use Rattle.readers.specs.Readers.{occurrences, reading_node, readers_of}
-use Rattle.kept.specs.PlaceLaws.{last_yes, last_no}
+use Rattle.kept.proofs.PlaceLaws.{last_yes, last_no}
 use Rattle.kept.specs.Tabulate.{updated, updated_here, updated_there, updated_is, switched, switched_below, switched-from, switched_other}
 use Rattle.kept.specs.SetOfLaws.{ltb-suc}
 use Rattle.kept.specs.CountedSet.{and_then, moved}
 use Rattle.kept.specs.Worklist.{Worklist, Lists}
-use Rattle.kept.specs.WorklistLaws.{lists_agree, node_entered}
-use Rattle.kept.specs.CountedSetLaws.{count_more}
+use Rattle.kept.proofs.WorklistLaws.{lists_agree, node_entered}
+use Rattle.kept.proofs.CountedSetLaws.{count_more}
 use Rattle.kept.specs.Tables.{Tables, node_count, root_count, root_at, head_at, body_at, operands_at}
 use Rattle.kept.specs.Evaluation.{Evaluation, held, body_true, supports, support, false_root}
 use Rattle.kept.specs.Step.{reader_updated, readers_updated}
 use Rattle.kept.specs.PlainWalk.{among}
 use Rattle.kept.specs.Consistent.{Consistent, readers_in, operands_lower}
-use Rattle.kept.specs.HeldLaws.{held_agree, support_agree, roots_agree, node_told, root_told, producer-told, told-append}
+use Rattle.kept.proofs.HeldLaws.{held_agree, support_agree, roots_agree, node_told, root_told, producer-told, told-append}
 
 occurs_lower : (k m : ℕ) (xs : List ℕ) → Each (λ o. o < m) xs → 0 < occurrences k xs → k < m
 unfolding occurrences

@@ -15,17 +15,17 @@ use Rattle.theory.specs.declared.Node.{Node}
 use Rattle.theory.specs.declared.Node.TheVariants.{Atom, False, Implies, And, Or, Unknown}
 use Rattle.words.specs.Changed.{unlike}
 use Rattle.kept.specs.Tabulate.{updated, updated_same}
-use Rattle.kept.specs.CountedSetLaws.{unlike_false, unlike_true}
+use Rattle.kept.proofs.CountedSetLaws.{unlike_false, unlike_true}
 use Rattle.kept.specs.Worklist.{Worklist, Lists}
-use Rattle.kept.specs.WorklistLaws.{lists_agree, first-is, first_left}
+use Rattle.kept.proofs.WorklistLaws.{lists_agree, first-is, first_left}
 use Rattle.kept.specs.Tables.{Tables, node_count, operands_at, sound}
 use Rattle.kept.specs.Evaluation.{Evaluation, truth_at, present, held, truth, support, false_root, summary}
 use Rattle.kept.specs.Step.{took, settled, seen, step_at, step}
 use Rattle.kept.specs.Consistent.{Consistent, operands_lower, atom_lower}
-use Rattle.kept.specs.SeenLaws.{seen-sound}
-use Rattle.kept.specs.HeldLaws.{truth-held, present-held, truths_held}
+use Rattle.kept.proofs.SeenLaws.{seen-sound}
+use Rattle.kept.proofs.HeldLaws.{truth-held, present-held, truths_held}
 use Rattle.kept.specs.PlainWalk.{among, truth_by, waiting_after}
-use Rattle.kept.specs.ReaderLaws.{readers-told}
+use Rattle.kept.proofs.ReaderLaws.{readers-told}
 
 -- ---- a node's truth goes by its atom, or by the truth of its operands
 

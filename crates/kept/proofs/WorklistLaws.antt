@@ -22,7 +22,7 @@ use Rattle.kept.specs.Tabulate.{updated, updated_here, updated_there, updated_is
 use Rattle.kept.specs.SetOf.{words32, set_of}
 use Rattle.kept.specs.SetOfLaws.{small-set_of, member-set_of, member_below, set_of-agree, set_of-inserted, set_of-removed, next_found}
 use Rattle.kept.specs.CountedSet.{counted_set, with_bit}
-use Rattle.kept.specs.CountedSetLaws.{count_more, count-zero, counted_agree, bit-set, member-set}
+use Rattle.kept.proofs.CountedSetLaws.{count_more, count-zero, counted_agree, bit-set, member-set}
 use Rattle.kept.specs.Worklist.{Worklist, with_far, behind, remembering, alone, before, with_node, filled, advanced, advance, sought_filled, far_next, next_filled, forgotten, without_first, but_lowest, worklist_of, Ahead, Remembers, Lists}
 
 -- ---- a worklist by its first node, what it remembers, and the test of the others

@@ -10,7 +10,7 @@ use Rattle.base.specs.Tests.{both, both_left, both_right, below_or}
 use Rattle.base.specs.Places.{lowest, lowest_is, lowest-only, Lowest, count_none}
 use Rattle.formula.specs.Satisfaction.{Interpretation}
 use Rattle.kept.specs.CountedSet.{Lookup, empty, at, lookup, counted_set}
-use Rattle.kept.specs.CountedSetLaws.{count-zero, lookup_at, lookup_empty}
+use Rattle.kept.proofs.CountedSetLaws.{count-zero, lookup_at, lookup_empty}
 use Rattle.kept.specs.Tables.{Tables, atom_count, node_count, root_count, root_at, head_at, body_at}
 use Rattle.kept.specs.Evaluation.{held, truth, body_true, supports, support, false_root, summary, fresh}
 use Rattle.kept.specs.Verdict.{not_model, residual, stable, missing_atom, first_false, first_missing, verdict, judged, verdict_of}

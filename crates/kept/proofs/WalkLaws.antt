@@ -19,18 +19,18 @@ use Rattle.words.specs.Changed.{unlike}
 use Rattle.readers.specs.Readers.{occurrences}
 use Rattle.kept.specs.Tabulate.{updated, updated_here, updated_there, updated_same, switched, switched_below, switched-from, switched_next}
 use Rattle.kept.specs.SetOfLaws.{ltb-suc}
-use Rattle.kept.specs.CountedSetLaws.{unlike_false, unlike_same}
+use Rattle.kept.proofs.CountedSetLaws.{unlike_false, unlike_same}
 use Rattle.kept.specs.Worklist.{Worklist, worklist_of, Lists}
-use Rattle.kept.specs.WorklistLaws.{lists_agree, lists_of, lists_none, first-none}
+use Rattle.kept.proofs.WorklistLaws.{lists_agree, lists_of, lists_none, first-none}
 use Rattle.kept.specs.Tables.{Tables, atom_count, node_count, root_at, head_at, body_at, operands_at}
 use Rattle.kept.specs.Evaluation.{Evaluation, held, truth, body_true, supports, support, false_root, summary, fresh}
 use Rattle.kept.specs.Step.{idle, took, step_at, step}
 use Rattle.kept.specs.Dirty.{touched_node, touched, flips, dirty}
 use Rattle.kept.specs.Walk.{ended, walk}
 use Rattle.kept.specs.Consistent.{Consistent, operands_lower}
-use Rattle.kept.specs.HeldLaws.{held_agree}
+use Rattle.kept.proofs.HeldLaws.{held_agree}
 use Rattle.kept.specs.PlainWalk.{among, truth_by, waiting_after}
-use Rattle.kept.specs.StepLaws.{truth_agree, truth_lower, truth_step, step_summary}
+use Rattle.kept.proofs.StepLaws.{truth_agree, truth_lower, truth_step, step_summary}
 
 -- ---- tests of the operands of a node
 

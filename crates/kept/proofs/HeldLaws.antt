@@ -15,7 +15,7 @@ use Rattle.words.specs.Sets.{member}
 use Rattle.kept.specs.SetOf.{set_of}
 use Rattle.kept.specs.SetOfLaws.{member_below, set_of-agree}
 use Rattle.kept.specs.CountedSet.{and_then, counted_set, with_bit, with_member, moved}
-use Rattle.kept.specs.CountedSetLaws.{counted_agree, bit-set, member-set}
+use Rattle.kept.proofs.CountedSetLaws.{counted_agree, bit-set, member-set}
 use Rattle.kept.specs.Worklist.{Worklist, with_node}
 use Rattle.kept.specs.Tables.{Tables, atom_count, node_count, root_count, head_at}
 use Rattle.kept.specs.Evaluation.{Evaluation, truth_at, present, truth_word, held}

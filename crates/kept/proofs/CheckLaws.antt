@@ -17,7 +17,7 @@ use Rattle.words.specs.Changed.{unlike}
 use Rattle.words.specs.Sets.{member}
 use Rattle.kept.specs.SetOf.{words32, set_of}
 use Rattle.kept.specs.SetOfLaws.{member_below, member_above, length-set_of}
-use Rattle.kept.specs.CountedSetLaws.{unlike_same}
+use Rattle.kept.proofs.CountedSetLaws.{unlike_same}
 use Rattle.kept.specs.Tables.{Tables, atom_count, node_count, root_count, root_at, head_at, body_at}
 use Rattle.kept.specs.Evaluation.{zeroed, held, truth, summary, fresh}
 use Rattle.kept.specs.Verdict.{verdict}
@@ -26,9 +26,9 @@ use Rattle.kept.specs.Dirty.{dirty}
 use Rattle.kept.specs.Walk.{kept_walk}
 use Rattle.kept.specs.Check.{accepted, node_entry, producer_entry, root_entry, tables_admission, fresh_result, kept_result, changes, most, is_kept, result}
 use Rattle.kept.specs.Consistent.{Consistent}
-use Rattle.kept.specs.SeenLaws.{seen-sound}
-use Rattle.kept.specs.StartLaws.{kept_fresh}
-use Rattle.kept.specs.VerdictLaws.{verdict-fresh}
+use Rattle.kept.proofs.SeenLaws.{seen-sound}
+use Rattle.kept.proofs.StartLaws.{kept_fresh}
+use Rattle.kept.proofs.VerdictLaws.{verdict-fresh}
 
 outside_false : (A : ℕ) (J : Interpretation) → Within A J → (a : ℕ) → A ≤ a → J a ≡ false
 outside_false A J w a l = go (J a) refl
