@@ -21,21 +21,19 @@ pub lay_pair-requires : goal.lay_pair-requires
 lay_pair-requires c = (c.requires.limited.0, c.requires.limited.2, c.requires.limited.3)
 
 pub loop-counts-init : goal.loop-counts-init
-loop-counts-init c = let s = c in
-    let t : Tables → Tables = λ T. listed s.args.counts s.args.readers.now T in (
-      λ T J same. turning_first (t T) J 64 _ s.args.j _ (omega (arith, s.requires.0.2, c.lay_pair.auto.kept)),
-      pair_within (t (bare s.args.counts)) s.args.kept.now s.args.j _ _ (c.old_pair.ensures (t (bare s.args.counts))) (s.requires.1 (bare s.args.counts)),
+loop-counts-init c =     let t : Tables → Tables = λ T. listed c.args.counts c.args.readers.now T in (
+      λ T J same. turning_first (t T) J 64 _ c.args.j _ (omega (arith, c.requires.limited.2, c.lay_pair.auto.kept)),
+      pair_within (t (bare c.args.counts)) c.args.kept.now c.args.j _ _ (c.old_pair.ensures (t (bare c.args.counts))) (c.requires.k_bound (bare c.args.counts)),
       refl,
-      xor_lt 64 _ _ c.old_pair.type_inv s.ranges.new.fits,
+      xor_lt 64 _ _ c.old_pair.type_inv c.ranges.new.fits,
     )
 
 pub returns-then-k-eq64 : goal.returns-then-k-eq64
-returns-then-k-eq64 c = let s = c in
-    λ T J same.
-    let t = listed s.args.counts s.args.readers.now T in
-    pair_turned t s.args.kept.now s.requires.0.2 (λ k. omega (arith, c.slice_known-1.given k)) s.args.j _ s.ranges.new.fits s.requires.0.3 _
-    c.lay_pair.ensures (s.requires.1 T) J same _ (c.old_pair.ensures t) _ _
-    (turning_done t J 64 _ s.args.j _ (omega (arith, s.requires.0.2, c.lay_pair.auto.kept)) _ _ (c.loop-counts.invariant.0 T J same) _ c.bits-k.ensures c.if-k-eq64.true)
+returns-then-k-eq64 c =     λ T J same.
+    let t = listed c.args.counts c.args.readers.now T in
+    pair_turned t c.args.kept.now c.requires.limited.2 (λ k. omega (arith, c.slice_known-1.given k)) c.args.j _ c.ranges.new.fits c.requires.limited.3 _
+    c.lay_pair.ensures (c.requires.k_bound T) J same _ (c.old_pair.ensures t) _ _
+    (turning_done t J 64 _ c.args.j _ (omega (arith, c.requires.limited.2, c.lay_pair.auto.kept)) _ _ (c.loop-counts.invariant.0 T J same) _ c.bits-k.ensures c.if-k-eq64.true)
 
 pub overflow_cast-a : goal.overflow_cast-a
 overflow_cast-a c = omega (arith, place_below 64 _ _ c.bits-k.ensures c.if-k-eq64.false)
@@ -58,29 +56,24 @@ turn_atom-requires c = (
 )
 
 pub returns-then-not-turn_atom : goal.returns-then-not-turn_atom
-returns-then-not-turn_atom c = let found = c in
-    let s = found.before.before.before.before.before.before.before.before.before.before.before in
-    λ T J same.
-    let t = listed s.args.counts s.args.readers.now T in
-    pair_turned t s.args.kept.now s.requires.0.2 (λ k. omega (arith, found.before.before.before.before.before.before.before.before.before.slice-known.given k)) s.args.j _ s.ranges.new.fits s.requires.0.3 _
-    found.before.before.before.before.before.lay-pair.ensures (s.requires.1 T) J same _ (found.before.before.before.before.before.before.before.old-pair.ensures t) _ _
-    (turning_stray t J 64 _ s.args.j _ (omega (arith, s.requires.0.2, found.before.before.before.before.before.lay-pair.auto.1.0)) _ _ (found.before.before.loop.invariant.0 T J same) _ found.before.bits.ensures found.if1.false found.before.before.loop.invariant.3 _ _ (c.turn_atom.ensures T J (place_read _ _ _ (same _ (place_below 64 _ _ found.before.bits.ensures found.if1.false)))) (not-true _ c.if-not-turn_atom.true-raw))
+returns-then-not-turn_atom c =         λ T J same.
+    let t = listed c.args.counts c.args.readers.now T in
+    pair_turned t c.args.kept.now c.requires.limited.2 (λ k. omega (arith, c.slice_known-1.given k)) c.args.j _ c.ranges.new.fits c.requires.limited.3 _
+    c.lay_pair.ensures (c.requires.k_bound T) J same _ (c.old_pair.ensures t) _ _
+    (turning_stray t J 64 _ c.args.j _ (omega (arith, c.requires.limited.2, c.lay_pair.auto.kept)) _ _ (c.loop-counts.invariant.0 T J same) _ c.bits-k.ensures c.if-k-eq64.false c.loop-counts.invariant.3 _ _ (c.turn_atom.ensures T J (place_read _ _ _ (same _ (place_below 64 _ _ c.bits-k.ensures c.if-k-eq64.false)))) (not-true _ c.if-not-turn_atom.true-raw))
 
 pub overflow_sub-x : goal.overflow_sub-x
-overflow_sub-x c = let found = c in
-    place_some 64 _ _ found.before.bits.ensures found.if1.false
+overflow_sub-x c =     place_some 64 _ _ c.bits-k.ensures c.if-k-eq64.false
 
 pub loop-counts-smaller : goal.loop-counts-smaller
-loop-counts-smaller c = let found = c in
-    omega (arith, ap length (place_off 64 _ _ found.before.bits.ensures found.if1.false found.before.before.loop.invariant.3))
+loop-counts-smaller c =     omega (arith, ap length (place_off 64 _ _ c.bits-k.ensures c.if-k-eq64.false c.loop-counts.invariant.3))
 
 pub loop-counts-preserved : goal.loop-counts-preserved
-loop-counts-preserved c = let found = c in
-    let s = found.before.before.before.before.before.before.before.before.before.before.before in (
+loop-counts-preserved c =     (
       λ T J same.
-          turning_more (listed s.args.counts s.args.readers.now T) J 64 _ s.args.j _ (omega (arith, s.requires.0.2, found.before.before.before.before.before.lay-pair.auto.1.0)) _ _ (found.before.before.loop.invariant.0 T J same) _
-          found.before.bits.ensures found.if1.false found.before.before.loop.invariant.3 _ _ (c.turn_atom.ensures T J (place_read _ _ _ (same _ (place_below 64 _ _ found.before.bits.ensures found.if1.false)))) (not-false _ c.if-not-turn_atom.false-raw),
-      λ k l e. found.before.before.loop.invariant.1 k l (off_set _ k e),
-      omega (arith, found.before.before.loop.invariant.2, c.turn_atom.auto.kept),
-      off_small 64 _ found.before.before.loop.invariant.3,
+          turning_more (listed c.args.counts c.args.readers.now T) J 64 _ c.args.j _ (omega (arith, c.requires.limited.2, c.lay_pair.auto.kept)) _ _ (c.loop-counts.invariant.0 T J same) _
+          c.bits-k.ensures c.if-k-eq64.false c.loop-counts.invariant.3 _ _ (c.turn_atom.ensures T J (place_read _ _ _ (same _ (place_below 64 _ _ c.bits-k.ensures c.if-k-eq64.false)))) (not-false _ c.if-not-turn_atom.false-raw),
+      λ k l e. c.loop-counts.invariant.1 k l (off_set _ k e),
+      omega (arith, c.loop-counts.invariant.2, c.turn_atom.auto.kept),
+      off_small 64 _ c.loop-counts.invariant.3,
     )
