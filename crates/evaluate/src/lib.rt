@@ -9,7 +9,7 @@ ghost use Rattle.theory.specs.Limits.{Limited};
 ghost use Rattle.kept.specs.SetOf.{words64};
 ghost use Rattle.kept.specs.Tables.{Tables};
 ghost use Rattle.kept.specs.Layout.{of_words};
-ghost use Rattle.kept.specs.Check.{fresh_result, tables_admission, is_kept, result};
+ghost use Rattle.kept.specs.Check.{fresh_result, tables_admission, is_kept, result as result_of};
 ghost use Rattle.kept.specs.Outcome.{outcome};
 ghost use Rattle.kept_laws.specs.Given.{used_by, sized};
 ghost use Rattle.update.specs.Results.{lent, Results};
@@ -36,8 +36,8 @@ pub enum Change {
 // Whether a check of this stamp is held and at most max(64, atoms / 8) atoms changed; then the pairs of words that differ are marked.
 fn compare(counts: Counts, candidate: &[u64], kept: &[u32], marks: &mut [u64]) -> Change
     requires { Limited counts × (length candidate.now ≡ words64 counts.atoms) × (used_by counts ≤ length kept.now) × (words64 counts.atoms ≤ 64 * length marks.old) }
-    ensures* fact { λ r. ⌜ ((T : Tables) → keeps_by r ≡ is_kept 64 8 (sized counts T) (member 64 candidate.now) (of_words (sized counts T) kept.now)) ⌝ }
-    ensures* fact_2 { λ r. ⌜ Spans counts kept.now candidate.now marks.new r ⌝ }
+    ensures keeps { (T : Tables) → keeps_by result ≡ is_kept 64 8 (sized counts T) (member 64 candidate.now) (of_words (sized counts T) kept.now) }
+    ensures spans { Spans counts kept.now candidate.now marks.new result }
 {
     if kept[0] != 1 {
         return Change::Fresh;
@@ -65,7 +65,7 @@ fn fresh(
     kept: &mut [u32],
 ) -> Checked
     requires { Lent counts (length candidate.now) (length nodes.now) (length operands.now) (length roots.now) (length producers.now) (length kept.old) × (reader_words counts ≤ length readers.now) × (made ≤ counts.roots) × Within counts.atoms (member 64 candidate.now) }
-    ensures* { λ r. ⌜ ((T : Tables) → Results (lent counts made nodes.now operands.now roots.now producers.now readers.now T) kept.old (fresh_result (lent counts made nodes.now operands.now roots.now producers.now readers.now T) (member 64 candidate.now) (tables_admission (lent counts made nodes.now operands.now roots.now producers.now readers.now T) (member 64 candidate.now))) r kept.new) ⌝ }
+    ensures { (T : Tables) → Results (lent counts made nodes.now operands.now roots.now producers.now readers.now T) kept.old (fresh_result (lent counts made nodes.now operands.now roots.now producers.now readers.now T) (member 64 candidate.now) (tables_admission (lent counts made nodes.now operands.now roots.now producers.now readers.now T) (member 64 candidate.now))) result kept.new }
 {
     match complete::complete(
         counts, made, candidate, nodes, operands, roots, producers, kept,
@@ -99,7 +99,7 @@ fn evaluate_with(
     marks: &mut [u64],
 ) -> Checked
     requires { Lent counts (length candidate.now) (length nodes.now) (length operands.now) (length roots.now) (length producers.now) (length kept.old) × (reader_words counts ≤ length readers.now) × Within counts.atoms (member 64 candidate.now) × (made ≤ counts.roots) × (words64 counts.atoms ≤ 64 * length marks.old) × (length marks.old ≤ 16) }
-    ensures* { λ r. ⌜ ((T : Tables) → Results (lent counts made nodes.now operands.now roots.now producers.now readers.now T) kept.old (result 64 8 (lent counts made nodes.now operands.now roots.now producers.now readers.now T) (member 64 candidate.now) (of_words (lent counts made nodes.now operands.now roots.now producers.now readers.now T) kept.old)) r kept.new) ⌝ }
+    ensures { (T : Tables) → Results (lent counts made nodes.now operands.now roots.now producers.now readers.now T) kept.old (result_of 64 8 (lent counts made nodes.now operands.now roots.now producers.now readers.now T) (member 64 candidate.now) (of_words (lent counts made nodes.now operands.now roots.now producers.now readers.now T) kept.old)) result kept.new }
 {
     match compare(counts, candidate, kept, marks) {
         Change::Few(first, end) => update::update(
@@ -125,7 +125,7 @@ fn evaluate(
     kept: &mut [u32],
 ) -> Checked
     requires { Lent counts (length candidate.now) (length nodes.now) (length operands.now) (length roots.now) (length producers.now) (length kept.old) × (reader_words counts ≤ length readers.now) × Within counts.atoms (member 64 candidate.now) }
-    ensures* { λ r. ⌜ ((T : Tables) → Results (lent counts made nodes.now operands.now roots.now producers.now readers.now T) kept.old (result 64 8 (lent counts made nodes.now operands.now roots.now producers.now readers.now T) (member 64 candidate.now) (of_words (lent counts made nodes.now operands.now roots.now producers.now readers.now T) kept.old)) r kept.new) ⌝ }
+    ensures { (T : Tables) → Results (lent counts made nodes.now operands.now roots.now producers.now readers.now T) kept.old (result_of 64 8 (lent counts made nodes.now operands.now roots.now producers.now readers.now T) (member 64 candidate.now) (of_words (lent counts made nodes.now operands.now roots.now producers.now readers.now T) kept.old)) result kept.new }
 {
     if made > counts.roots {
         return Checked::Refused(Refusal::BadEntry(0));
@@ -148,7 +148,7 @@ fn evaluate(
 // After refusal 17 the listed words, n of them, are 0.
 fn settle(checked: Checked, kept: &mut [u32], n: usize) -> Checked
     requires { n ≤ length kept.old }
-    ensures* { λ r. ⌜ (r ≡ checked) × (kept.new ≡ settled n checked kept.old) ⌝ }
+    ensures { (result ≡ checked) × (kept.new ≡ settled n checked kept.old) }
 {
     let Checked::Refused(_) = checked else {
         return checked;
@@ -170,7 +170,7 @@ pub fn check(
     readers: &[u64],
     kept: &mut [u32],
 ) -> Checked
-    ensures* { λ r. ⌜ outcome_of r kept.new ≡ outcome 64 8 (tables_of counts plan nodes.now operands.now roots.now producers.now readers.now) (candidate_of stamp candidate.now) kept.old ⌝ }
+    ensures { outcome_of result kept.new ≡ outcome 64 8 (tables_of counts plan nodes.now operands.now roots.now producers.now readers.now) (candidate_of stamp candidate.now) kept.old }
 {
     // named again, so that the compiler hands the parts of each on by value
     let candidate = &candidate[..];
