@@ -1,0 +1,16 @@
+use mathlib.Core.Path.{sym, ◌∙◌}
+use Rattle.text.specs.ClipLaws.{put_same}
+use Rattle.run.specs.TextLaws.{too_long, file_refused, file_sound}
+use Rattle.run.proofs.lines.Goals as goal
+
+pub returns-then-file-gt65536 : goal.returns-then-file-gt65536
+returns-then-file-gt65536 c = put_same (too_long c.args.file.now c.if-file-gt65536.true) c.refused_line.ensures
+
+pub sound_lines-requires : goal.sound_lines-requires
+sound_lines-requires c = (sym c.judge.ensures ∙ c.in-Sound.is, c.if-file-gt65536.false)
+
+pub returns-in-Refused : goal.returns-in-Refused
+returns-in-Refused c = put_same (file_refused c.args.file.now c.if-file-gt65536.false _ (sym c.judge.ensures ∙ c.in-Refused.is)) c.refused_line-in-Refused.ensures
+
+pub returns-in-Sound : goal.returns-in-Sound
+returns-in-Sound c = put_same (file_sound c.args.file.now c.if-file-gt65536.false _ (sym c.judge.ensures ∙ c.in-Sound.is)) c.sound_lines.ensures
