@@ -55,7 +55,7 @@ fn link() {
         println!("cargo:rerun-if-changed={}", library.display());
         assert!(
             library.is_file(),
-            "{} is missing: write it with `rt staticlib {name}`, or name its folder in TIGHT_LIB_DIR",
+            "{} is missing: write it with host/staticlib.sh, or name its folder in TIGHT_LIB_DIR",
             library.display()
         );
         println!("cargo:rustc-link-lib=static={name}");

@@ -1,6 +1,6 @@
 /* The tight check for C and C++ on x86-64 Linux: link with libtight.a, and for tight_run with
-   libtight_file.a; `rt staticlib tight` and `rt staticlib tight_file` write them to
-   target/staticlib. samples/plan_check.c plans and checks a theory, samples/run.c runs a file.
+   libtight_file.a; host/staticlib.sh writes them to target/staticlib. samples/plan_check.c plans and
+   checks a theory, samples/run.c runs a file.
 
    A slice is a pointer and its length in elements. The pointer is aligned for its element and not
    NULL, for a slice of length 0 too, though nothing is read or written through that one. A slice

@@ -1,12 +1,12 @@
 -- Refusals whose place is bounded, in tests made one after the other.
 -- Assumes nothing.
-use Prim.Native.Nat.{ℕ, zero, suc, ◌+◌, ◌<◌, ◌≤◌}
+use Prim.Native.Nat.{ℕ, zero, suc, ◌+◌, ◌<◌}
 use native.Mathlib.Omega.{arith}
 use mathlib.Core.Path.{◌≡◌, refl}
-use mathlib.Core.Bool.{Bool, true, false, cond}
+use mathlib.Core.Bool.{Bool, cond}
 use lib.Dec.{ltb}
 use Rattle.theory.specs.Admission.{or_else, first_refusal}
-use Rattle.theory.specs.Only.{Only, only_admitted, only_refused, only_either, only-or_else}
+use Rattle.theory.specs.Only.{Only, only_admitted, only_refused, only_either}
 use Rattle.theory.specs.Limits.{limits_of}
 use Rattle.theory.specs.Refusal.{told}
 use Rattle.theory.specs.declared.Admission.{Admission}

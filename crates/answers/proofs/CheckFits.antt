@@ -1,9 +1,9 @@
 -- The answer of every check fits its word, on any tables and any words lent.
 -- Assumes nothing.
-use Prim.Native.Nat.{ℕ, zero, suc, ◌+◌, ◌*◌, ◌/◌, ◌-◌, ◌<◌, ◌≤◌}
+use Prim.Native.Nat.{ℕ, zero, suc, ◌+◌, ◌*◌, ◌<◌, ◌≤◌}
 use native.Mathlib.Omega.{arith}
 use native.Mathlib.Nat.{min-le_left}
-use mathlib.Core.Path.{◌≡◌, refl, ap, sym, ◌∙◌, subst}
+use mathlib.Core.Path.{◌≡◌, refl, ap, ◌∙◌, subst}
 use mathlib.Core.Logic.{◌⊎◌, inl, inr, ⊎_elim}
 use mathlib.Core.Bool.{Bool, true, false, cond, ◌&&◌}
 use mathlib.Core.List.{List, [], ◌∷◌}
@@ -15,16 +15,14 @@ use Rattle.base.specs.Each.{Each}
 use Rattle.formula.specs.Satisfaction.{Interpretation}
 use Rattle.words.specs.Next.{next}
 use Rattle.words.specs.Changed.{unlike}
-use Rattle.theory.specs.Admission.{or_else, first_refusal}
 use Rattle.theory.specs.Limits.{Limited}
 use Rattle.theory.specs.LimitsLaws.{within_limits}
 use Rattle.theory.specs.Refusal.{told}
-use Rattle.theory.specs.Refusals.{or_else_left, or-else-right}
+use Rattle.theory.specs.Refusals.{or_else_left}
 use Rattle.theory.specs.declared.Admission.{Admission}
 use Rattle.theory.specs.declared.Admission.TheVariants.{Admitted, Refused}
-use Rattle.theory.specs.declared.Refusal.{Refusal}
 use Rattle.theory.specs.declared.Refusal.TheVariants.{ShortBuffer, ForeignStamp, StrayBit, BadEntry}
-use Rattle.kept.specs.CountedSet.{CountedSet, Lookup, empty, astray, at, lookup, and_then}
+use Rattle.kept.specs.CountedSet.{Lookup, empty, astray, at, lookup, and_then}
 use Rattle.kept.specs.Worklist.{Worklist, without_first}
 use Rattle.kept.specs.SetOf.{words64}
 use Rattle.kept.specs.Tables.{Tables, atom_count, node_count, root_count, root_at, head_at, body_at, readers_at}
@@ -40,11 +38,11 @@ use Rattle.kept.specs.Check as check
 use Rattle.kept.specs.Check.{entry, seen_entry, node_entry, producer_entry, root_entry, tables_admission, fresh_result, kept_result, is_kept, result}
 use Rattle.kept.proofs.EntryLaws.{root_within}
 use Rattle.kept.specs.Candidate.{Candidate, atoms_of, listed_words}
-use Rattle.kept.specs.Layout.{of_words, listed}
+use Rattle.kept.specs.Layout.{of_words}
 use Rattle.kept.specs.LayoutLaws.{Fits, room, fits_of}
 use Rattle.kept.specs.Tests.{Buffer, buffers, first_short, stamps, stray_bit, tests}
 use Rattle.kept.proofs.TestLaws.{lent_long}
-use Rattle.kept.specs.Outcome.{Answer, accepted, refused, concluded, outcome_at, outcome}
+use Rattle.kept.specs.Outcome.{accepted, concluded, outcome_at, outcome}
 use Rattle.kept_laws.specs.WalkEnds.{Rises}
 use Rattle.kept_laws.proofs.AnyWords.{kept_ends}
 use Rattle.verdict.specs.ToldLaws.{lookup_below}

@@ -1,6 +1,5 @@
 -- Words of document 01's example: its plan and its checks, and refusals with and without a body.
 -- Assumes nothing.
-use Prim.Native.Nat.{ℕ}
 use mathlib.Core.Path.{◌≡◌, refl}
 use Rattle.theory.specs.Refusal.{told}
 use Rattle.theory.specs.declared.Refusal.TheVariants.{ShortBuffer, UnsupportedBody, BadEntry}

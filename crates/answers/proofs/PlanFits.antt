@@ -2,7 +2,7 @@
 -- Assumes nothing.
 use Prim.Native.Nat.{ℕ, zero, suc, ◌+◌, ◌*◌, ◌<◌, ◌≤◌}
 use native.Mathlib.Omega.{arith}
-use mathlib.Core.Path.{◌≡◌, refl, sym, ◌∙◌}
+use mathlib.Core.Path.{◌≡◌, refl}
 use mathlib.Core.Bool.{Bool, true, false, cond, not, ◌&&◌}
 use mathlib.Core.List.{List}
 use lib.Dec.{eqb, ltb, leb}
@@ -24,8 +24,7 @@ use Rattle.theory.specs.declared.Admission.TheVariants as admission
 use Rattle.theory.specs.declared.Counts.{Counts}
 use Rattle.theory.specs.declared.Node.{Node}
 use Rattle.theory.specs.declared.Node.TheVariants.{Atom, False, Implies, And, Or, Unknown}
-use Rattle.theory.specs.declared.Refusal.{Refusal}
-use Rattle.theory.specs.declared.Refusal.TheVariants.{BadKind, BadAtom, BadOperand, NoOperands, BadRoot, ShortBuffer, UnsupportedRoot, UnsupportedBody, PositiveCycle, RankShape, RankOrder}
+use Rattle.theory.specs.declared.Refusal.TheVariants.{BadKind, BadAtom, BadOperand, NoOperands, BadRoot, ShortBuffer, PositiveCycle, RankShape, RankOrder}
 use Rattle.theory.proofs.Admitted.{admitted_formed}
 use Rattle.compile.specs.Producer.{produced}
 use Rattle.compile.specs.Producers.{roots_supported, supported_at, producers_before}
@@ -39,9 +38,8 @@ use Rattle.ranks.specs.Dependency.{positive, dependencies}
 use Rattle.ranks.specs.RankCheck.{body_order, produced_order, order_at, order_by, rank_order, rank_check}
 use Rattle.plan.specs.Buffers.{readers_length, work_length, short_buffer, long_enough}
 use Rattle.plan.specs.Judged.{classes, judged, derived, acyclic, plan_judged, certify_judged}
-use Rattle.plan.specs.Outcome.{producers_of, planned, ranks_of, lengths, plan_outcome, certify_outcome}
+use Rattle.plan.specs.Outcome.{producers_of, planned, lengths, plan_outcome, certify_outcome}
 use Rattle.plan.specs.declared.Lengths.{Lengths}
-use Rattle.plan.specs.declared.Planning.TheVariants as planning
 use Rattle.answers.specs.Fits.{RefusalFits, PlanningFits}
 use Rattle.answers.proofs.Bounded.{Fitting, fitting_admitted, fitting_refused, fitting_then, fitting_test, fitting_passed, fitting_first, fitting_limits}
 

@@ -6,7 +6,7 @@ use Rattle.theory.specs.Refusal.{told, number_of}
 use Rattle.theory.specs.declared.Refusal.{Refusal}
 use Rattle.plan.specs.declared.Planning.{Planning}
 use Rattle.plan.specs.declared.Planning.TheVariants.{Planned, Refused}
-use Rattle.kept.specs.Outcome.{Answer, accepted, refused}
+use Rattle.kept.specs.Outcome.{accepted}
 use Rattle.verdict.specs.Told.{verdict_as}
 use Rattle.verdict.specs.declared.Verdict.{Verdict}
 use Rattle.verdict.specs.declared.Verdict.TheVariants.{NotModel, Residual, Stable}

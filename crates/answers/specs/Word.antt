@@ -1,6 +1,6 @@
 -- The answer of a public call as one u64: in bits 0 to 7 the refusal's number, or 0; in bits 8 to 39 and 40 to 63 what goes with it.
 -- Assumes nothing.
-use Rattle.std.specs.Prelude.{ℕ, ◌+◌, ◌*◌, ◌/◌, ◌%◌, [], ◌∷◌, get_or}
+use Rattle.std.specs.Prelude.{ℕ, ◌+◌, ◌*◌, ◌/◌, ◌%◌, get_or}
 use Rattle.theory.specs.Refusal.{told, number_of}
 use Rattle.theory.specs.declared.Refusal.{Refusal}
 use Rattle.plan.specs.declared.Planning.{Planning}

@@ -1,7 +1,7 @@
 -- Unpacking a word gives its fields back, so no two answers share one.
 -- Assumes nothing.
-use Rattle.std.specs.Prelude.{ℕ, ◌+◌, ◌*◌, ◌-◌, ◌/◌, ◌%◌, ◌<◌, ◌≡◌, refl, Bool, true, false, cond, [], ◌∷◌, eqb, get_or}
-use Rattle.std.proofs.Common.{arith, ap, sym, ◌∙◌, eq-eqb, ne_eqb}
+use Rattle.std.specs.Prelude.{ℕ, ◌+◌, ◌*◌, ◌/◌, ◌<◌, ◌≡◌, refl, false, eqb}
+use Rattle.std.proofs.Common.{arith, ap, sym, ◌∙◌, ne_eqb}
 use Rattle.std.proofs.Math.Arith.{digits_div, digits_mod}
 use Rattle.theory.specs.Refusal.{told, number_of}
 use Rattle.theory.specs.declared.Refusal.{Refusal}

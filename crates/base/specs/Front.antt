@@ -1,6 +1,6 @@
 -- A buffer whose front holds a list: what a loop that appends to it keeps.
 -- Assumes nothing.
-use Rattle.std.specs.Prelude.{ℕ, ◌+◌, ◌<◌, ◌≤◌, ◌≡◌, refl, List, [], ◌∷◌, ◌++◌, length, set, drop}
+use Rattle.std.specs.Prelude.{ℕ, ◌<◌, ◌≤◌, ◌≡◌, refl, List, [], ◌∷◌, ◌++◌, length, set, drop}
 use Rattle.std.proofs.Common.{add-one, arith, ap, sym, ◌∙◌, append_assoc, length-append, length-drop, drop-cons}
 use Rattle.std.proofs.lemmas.List.{set_at}
 

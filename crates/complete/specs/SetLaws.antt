@@ -5,7 +5,7 @@ use Rattle.std.proofs.Common.{arith, ◌∙◌, ⊎_elim, lt-ltb, le-ltb}
 use Rattle.std.proofs.Math.Path.{refl, ap, sym}
 use Rattle.std.proofs.Math.Logic.{inl, inr}
 use Rattle.std.proofs.Math.Bool.{true, false}
-use Rattle.std.proofs.Math.Option.{some, none}
+use Rattle.std.proofs.Math.Option.{some}
 use Rattle.std.proofs.Math.Dec.{ltb}
 use Rattle.base.specs.Tests.{below_or}
 use Rattle.base.specs.Places.{Lowest}

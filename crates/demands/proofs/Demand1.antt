@@ -1,7 +1,7 @@
 -- DEMAND 1: "An answer or one numbered refusal comes back from every public call, for all bytes, tables and numbers lent to it; a refusal alters nothing lent, but for the work area and, after refusal 17, the kept books, which are zeroed."
 -- That every call answers and ends is its contract: none has a `requires`, and each equates answer and lent words with the outcomes named here.
 -- Assumes nothing.
-use Prim.Native.Nat.{ℕ, ◌+◌, ◌<◌, ◌≤◌}
+use Prim.Native.Nat.{ℕ, ◌<◌, ◌≤◌}
 use native.Mathlib.Omega.{arith}
 use mathlib.Core.Path.{◌≡◌, refl, sym, ap, ◌∙◌}
 use mathlib.Core.Logic.{⊎_elim, ◌↔◌}

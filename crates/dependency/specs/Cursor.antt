@@ -8,7 +8,6 @@ use Rattle.theory.specs.Admission.{span_start}
 use Rattle.theory.specs.declared.Counts.{Counts}
 use Rattle.theory.specs.declared.Node.{Node}
 use Rattle.theory.specs.declared.Node.TheVariants as node
-use Rattle.ranks.specs.Dependency as ranks
 use Rattle.ranks.specs.Dependency.{positive, operand_edges, edges_into, edges_of, dependencies}
 use Rattle.dependency.specs.declared.Cursor.{Cursor}
 use Rattle.dependency.specs.declared.Dependency.{Dependency}

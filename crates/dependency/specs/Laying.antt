@@ -1,6 +1,6 @@
 -- The dependencies laid one by one in a work area behind the class words.
 -- Assumes nothing.
-use Rattle.std.specs.Prelude.{ℕ, ◌+◌, ◌*◌, ◌-◌, ◌<◌, ◌≤◌, ◌≡◌, true, false, List, length, get_or, take, drop}
+use Rattle.std.specs.Prelude.{ℕ, ◌+◌, ◌*◌, ◌<◌, ◌≤◌, ◌≡◌, true, false, List, length, get_or, take, drop}
 use Rattle.theory.specs.Limits.{Limited}
 use Rattle.theory.specs.Admission.{span_start}
 use Rattle.theory.specs.WellFormed.{NodeTables, RootTable}

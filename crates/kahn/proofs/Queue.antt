@@ -12,7 +12,6 @@ use Rattle.base.specs.Places.{lowest, lowest_agree}
 use Rattle.graph.specs.Edge.{Edge}
 use Rattle.graph.specs.Derive.{ranks, cycle, derive}
 use Rattle.graph.specs.Removing.{Ended}
-use Rattle.graph.proofs.Kahn.{fits}
 use Rattle.graph.proofs.KahnEnd.{ended, read_cycle, read_ranks}
 use Rattle.kahn.specs.Area.{Sized, part, state_in, LinksKept}
 use Rattle.kahn.specs.Laid.{Laid}

@@ -7,7 +7,6 @@ use mathlib.Core.List.{List, [], ◌∷◌, ◌++◌}
 use lib.ListN.{length, get_or, set, take, drop, length-drop}
 use lib.Seq.{drop-set-add, take-set-lt, drop-set-lt, take-set-le, take-suc-set, get_or-take, get_or-drop, length-take-le}
 use Rattle.kahn.specs.Area.{part, state_in}
-use Rattle.graph.specs.Derive.{ranks}
 
 module _ (b k : ℕ) (area : List ℕ) where
   pub part_at : (i : ℕ) → i < k → get_or (part b k area) i 0 ≡ get_or area (b + i) 0

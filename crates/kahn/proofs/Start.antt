@@ -9,9 +9,8 @@ use lib.Dec.{eqb}
 use lib.ListN.{length, get_or}
 use Rattle.base.specs.Places.{places}
 use Rattle.graph.specs.Edge.{Edge, one}
-use Rattle.graph.specs.Derive.{ranks}
 use Rattle.graph.specs.Removing.{times}
-use Rattle.graph.proofs.Kahn.{removing_starts, fits}
+use Rattle.graph.proofs.Kahn.{removing_starts}
 use Rattle.kahn.specs.Area.{Sized, state_in, LinksKept}
 use Rattle.kahn.specs.Laid.{Laid}
 use Rattle.kahn.specs.Seeding.{Seeding}

@@ -13,7 +13,7 @@ use Rattle.graph.specs.Edge.{Edge, edge}
 use Rattle.graph.specs.Removal.{relax, edges_from}
 use Rattle.graph.specs.Removing.{has, Removing}
 use Rattle.graph.proofs.Depths.{depth_small}
-use Rattle.graph.proofs.Kahn.{fits, room, ranked, next_vertex, next_taken, removing_take, degree_left, removing_relax, taken_stays}
+use Rattle.graph.proofs.Kahn.{room, ranked, next_vertex, next_taken, removing_take, degree_left, removing_relax, taken_stays}
 use Rattle.kahn.specs.Area.{Sized, state_in, LinksKept}
 use Rattle.kahn.specs.Laid.{Chain, stop, link, Chains}
 use Rattle.kahn.specs.Draining.{Draining}

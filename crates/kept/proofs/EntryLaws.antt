@@ -1,7 +1,7 @@
 -- Tables that a fresh check admits: bodies and roots lie within the nodes.
 -- Assumes nothing.
-use Rattle.std.specs.Prelude.{ℕ, ◌<◌, ◌≤◌, ◌+◌, ◌≡◌, refl, Bool, true, false, ◌&&◌, ltb}
-use Rattle.std.proofs.Common.{arith, sym}
+use Rattle.std.specs.Prelude.{ℕ, ◌<◌, ◌≤◌, ◌≡◌, refl, Bool, true, false, ◌&&◌, ltb}
+use Rattle.std.proofs.Common.{arith}
 use Rattle.std.proofs.Math.Dec.{leb}
 use borrow.Author.Tests.{ltb-true, leb-true}
 use Rattle.base.specs.Tests.{both_right}

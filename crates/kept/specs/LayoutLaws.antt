@@ -14,7 +14,7 @@ use Rattle.kept.specs.SetOfLaws.{length-set_of}
 use Rattle.kept.specs.CountedSet.{counted_set}
 use Rattle.kept.specs.Worklist.{worklist_of}
 use Rattle.kept.specs.Tables.{Tables, atom_count, node_count, root_count}
-use Rattle.kept.specs.Evaluation.{Evaluation, zeroed, held, truth, support, false_root, summary, fresh}
+use Rattle.kept.specs.Evaluation.{Evaluation, zeroed, held, truth, false_root, summary, fresh}
 use Rattle.kept.specs.Layout.{flat, cut, lengths, parts, image, section, of_words, written, used, listed}
 
 -- ---- parts laid end to end

@@ -4,23 +4,21 @@ use Prim.Native.Nat.{ℕ, zero, suc, ◌<◌, ◌≤◌, ◌+◌}
 use native.Mathlib.Omega.{arith}
 use mathlib.Core.Path.{◌≡◌, refl, ap, ap₂, sym, ◌∙◌}
 use mathlib.Core.Logic.{⊎_elim}
-use mathlib.Core.Bool.{Bool, true, false, not, ◌&&◌}
+use mathlib.Core.Bool.{Bool, false, not}
 use mathlib.Core.Option.{Option, some, none}
-use lib.Dec.{ltb, leb}
 use lib.ListN.{get_or}
-use borrow.Author.Tests.{ltb-true, leb-true}
-use Rattle.base.specs.Tests.{both_right, equal_or}
+use Rattle.base.specs.Tests.{equal_or}
 use Rattle.base.specs.Places.{count_agree}
 use Rattle.base.specs.Rising.{rising, rising_at, rising_stays}
 use Rattle.formula.specs.Satisfaction.{Interpretation}
 use Rattle.theory.specs.Admission.{or_else, first_refusal}
 use Rattle.theory.specs.Node.{node_at}
 use Rattle.theory.specs.NodeTruth.{node_truth, node_truths}
-use Rattle.theory.specs.Refusals.{not_both, or_else_left, or-else-right, none_refused, first_agree}
+use Rattle.theory.specs.Refusals.{not_both, first_agree}
 use Rattle.theory.specs.declared.Admission.{Admission}
 use Rattle.theory.specs.declared.Admission.TheVariants.{Admitted, Refused}
 use Rattle.theory.specs.declared.Refusal.TheVariants.{BadEntry}
-use Rattle.kept.specs.Tables.{Tables, atom_count, node_count, root_count, root_at, head_at, body_at}
+use Rattle.kept.specs.Tables.{Tables, node_count, root_count, root_at, body_at}
 use Rattle.kept.specs.Seen.{seen_by}
 use Rattle.kept.proofs.SeenLaws.{seen-is, seen_agree}
 use Rattle.kept.specs.Worklist.{worklist_of}
@@ -29,7 +27,7 @@ use Rattle.kept.proofs.EntryLaws.{nodes_ok_lem, body_within, root_within}
 use Rattle.kept.proofs.HeldLaws.{held_agree}
 use Rattle.kept.specs.Verdict.{verdict, verdict_of}
 use Rattle.kept.proofs.VerdictLaws.{verdict-fresh}
-use Rattle.kept.specs.Check.{accepted, entry, seen_entry, node_entry, producer_entry, root_entry, tables_admission, fresh_result}
+use Rattle.kept.specs.Check.{accepted, seen_entry, node_entry, producer_entry, root_entry, tables_admission, fresh_result}
 use Rattle.kept_laws.specs.OptionLaws.{some_is}
 use Rattle.kept_laws.specs.Listed.{listed_tables}
 use Rattle.kept_laws.proofs.ListedReads.{seen-listed, head_listed, body_listed, root_listed}

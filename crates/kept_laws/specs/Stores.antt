@@ -11,7 +11,7 @@ use Rattle.kept.specs.SetOf.{words32}
 use Rattle.kept.specs.CountedSet.{CountedSet}
 use Rattle.kept.specs.Worklist.{Worklist, with_first, with_far}
 use Rattle.kept.specs.Tables.{Tables, atom_count, node_count, root_count}
-use Rattle.kept.specs.Evaluation.{Evaluation, support}
+use Rattle.kept.specs.Evaluation.{Evaluation}
 use Rattle.kept.specs.Parts.{with_truths, with_worklist, with_support, with_candidate, with_false_roots}
 use Rattle.kept.specs.Layout.{flat, parts, image, truths_start, worklist_start, support_start, candidate_start, missing_start, false_roots_start, groups_start, used}
 use Rattle.kept.specs.LayoutLaws.{Fits}

@@ -1,6 +1,6 @@
 -- The work area once the class words stand at its front.
 -- Assumes nothing.
-use Rattle.std.specs.Prelude.{ℕ, ◌+◌, ◌≡◌, List, ◌++◌, length, get_or, take, drop}
+use Rattle.std.specs.Prelude.{ℕ, ◌≡◌, List, ◌++◌, length, get_or, take, drop}
 use Rattle.std.proofs.Common.{ap, ◌∙◌, take_at, drop_at}
 use Rattle.base.specs.Rising.{length-rising}
 use Rattle.theory.specs.declared.Counts.{Counts}

@@ -13,7 +13,7 @@ use Rattle.base.specs.Each.{Each, each_map, each_both}
 use Rattle.graph.specs.Edge.{Edge, edge, cost}
 use Rattle.graph.specs.Accepts.{Accepts}
 use Rattle.formula.specs.Formula.{Formula}
-use Rattle.formula.specs.Class.{positive, frozen, class}
+use Rattle.formula.specs.Class.{frozen, class}
 use Rattle.formula.specs.Rank.{is_positive, highest}
 use Rattle.theory.specs.Node.{node_at, span}
 use Rattle.theory.specs.NodeClass.{node_class, node_classes}
@@ -24,7 +24,6 @@ use Rattle.theory.proofs.Meaning.{class_at, class_step, highest_step}
 use Rattle.theory.specs.declared.Counts.{Counts}
 use Rattle.theory.specs.declared.Node.{Node}
 use Rattle.theory.specs.declared.Node.TheVariants.{Atom, False, Implies, And, Or, Unknown}
-use Rattle.theory.specs.declared.Admission.TheVariants as admission
 use Rattle.compile.specs.ClassWord.{class_word, class_words}
 use Rattle.compile.specs.Producer.{produced}
 use Rattle.compile.specs.declared.Producer.{Producer}

@@ -20,7 +20,7 @@ use Rattle.plan.specs.Buffers.{readers_length, work_length, short_buffer}
 use Rattle.plan.specs.Judged.{classes, judged, plan_judged}
 use Rattle.plan.specs.Outcome.{lengths, planned, plan_outcome}
 use Rattle.plan.specs.declared.Lengths.{Lengths}
-use Rattle.plan.specs.declared.Planning.TheVariants.{Planned, Refused}
+use Rattle.plan.specs.declared.Planning.TheVariants.{Refused}
 use Rattle.series.specs.Ranks.{RootsAdmitted, Answers}
 use Rattle.series.proofs.Planned.{answered}
 

@@ -42,7 +42,7 @@ use Rattle.plan.specs.Judged.{classes, judged, derived, acyclic, plan_judged, ce
 use Rattle.plan.specs.Outcome.{producers_of, planned, ranks_of, lengths, plan_outcome, certify_outcome}
 use Rattle.plan.specs.Written.{written-planned}
 use Rattle.plan.specs.declared.Lengths.{Lengths}
-use Rattle.plan.specs.declared.Planning.TheVariants.{Planned, Refused}
+use Rattle.plan.specs.declared.Planning.TheVariants.{Planned}
 use Rattle.kept.specs.Tables.{between, list_at}
 use Rattle.kept.specs.Planned.{PlannedTables}
 use Rattle.series.specs.Lent.{lent}

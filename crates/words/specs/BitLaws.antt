@@ -1,6 +1,6 @@
 -- Laws of digits: shifts, or, and, xor and powers of two; the counts of a word's digits by its places.
 -- Assumes nothing.
-use Prim.Native.Nat.{ℕ, zero, suc, ◌+◌, ◌-◌, ◌*◌, ◌/◌, ◌%◌, ◌^◌, ◌≤◌, ◌<◌, min, max}
+use Prim.Native.Nat.{ℕ, zero, suc, ◌+◌, ◌*◌, ◌/◌, ◌%◌, ◌^◌, ◌≤◌, ◌<◌, min, max}
 use Rattle.std.proofs.Math.Nat.{mod-lt, div_self, div-eq_of_lt, zero-div, add-zero, mul-add-mod_self_right}
 use Rattle.std.proofs.Common.{div-one, zero-lt-suc, zero-add, one-mul, lt_of_lt_of_le, add-one, one-add, sym, ◌∙◌, ⊎_elim, lit<, pow_pos, pow_mono, shr_lt, shr-shr, shl_exact, eq-eqb, ne_eqb}
 use native.Mathlib.Omega.{arith}

@@ -3,7 +3,6 @@ use Rattle.compile.proofs.RootFormula.{made_small}
 use borrow.Author.Rules.{rules}
 use native.Mathlib.Omega.{arith}
 use mathlib.Core.Path.{◌≡◌, ◌∙◌}
-use Prim.Native.Nat.{◌-◌, ◌≤◌}
 use Rattle.base.specs.Front.{front_none}
 use Rattle.compile.specs.Producers.{producer_words}
 use Rattle.compile.specs.ProducersLaws.{producers_none, made_one}

@@ -1,8 +1,7 @@
 use borrow.Author.Rules.{rules}
 use native.Mathlib.Omega.{arith}
 use native.Mathlib.Nat.{sub-zero}
-use mathlib.Core.Path.{◌≡◌, ◌∙◌}
-use Prim.Native.Nat.{◌-◌, ◌≤◌}
+use mathlib.Core.Path.{◌∙◌}
 use Rattle.theory.specs.Refusals.{first_stop, first_go, first_done}
 use Rattle.compile.specs.Producers.{roots_supported}
 use Rattle.compile.specs.ProducersLaws.{root_seen}

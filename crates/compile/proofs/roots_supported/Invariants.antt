@@ -1,4 +1,4 @@
-use mathlib.Core.Path.{◌≡◌, ◌∙◌}
+use mathlib.Core.Path.{◌≡◌}
 use Prim.Native.Nat.{◌-◌, ◌≤◌}
 use Rattle.theory.specs.Admission.{first_refusal}
 use Rattle.compile.specs.Producers.{supported_at, roots_supported}

@@ -4,8 +4,7 @@ use Rattle.kept.specs.LayoutLaws.{fits_of}
 use Rattle.kept.specs.Layout.{of_words}
 use Rattle.kept_laws.specs.Given.{bare, produced}
 use Rattle.kept_laws.specs.OptionLaws.{not-true, not-false}
-use Prim.Native.Nat.{◌-◌, ◌≤◌}
-use mathlib.Core.Path.{◌≡◌, refl, ◌∙◌}
+use mathlib.Core.Path.{refl, ◌∙◌}
 use native.Mathlib.Omega.{arith}
 use borrow.Author.Rules.{rules}
 use Rattle.complete.proofs.count_producers.Goals as goal

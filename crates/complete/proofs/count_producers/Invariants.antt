@@ -3,7 +3,7 @@ use Rattle.kept_laws.specs.Given.{produced}
 use Rattle.kept.specs.Tables.{Tables}
 use lib.ListN.{length}
 use Prim.Native.Nat.{◌-◌, ◌≤◌}
-use mathlib.Core.Path.{◌≡◌, ◌∙◌}
+use mathlib.Core.Path.{◌≡◌}
 use Rattle.complete.proofs.count_producers.Given as goal
 
 abbrev pub invariant-loop-p : goal.invariant-loop-p

@@ -1,8 +1,6 @@
 use Rattle.complete.specs.Fills.{fill_none, fill_more, fill_done}
 use Rattle.words.specs.Halves.{half}
 use lib.ListN.{length-set}
-use Prim.Native.Nat.{◌-◌, ◌≤◌}
-use mathlib.Core.Path.{◌≡◌}
 use native.Mathlib.Omega.{arith}
 use borrow.Author.Rules.{rules}
 use Rattle.complete.proofs.lay_halves.Goals as goal

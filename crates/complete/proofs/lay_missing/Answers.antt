@@ -1,8 +1,8 @@
 use Rattle.complete.specs.Search.{next_from}
 use Rattle.complete.specs.Loops.{lacks_none, lacks_next, lacks_done}
 use Rattle.kept_laws.specs.Given.{sized}
-use mathlib.Core.Path.{◌≡◌, refl, ◌∙◌}
-use Prim.Native.Nat.{◌+◌, ◌-◌}
+use mathlib.Core.Path.{refl, ◌∙◌}
+use Prim.Native.Nat.{◌+◌}
 use native.Mathlib.Omega.{arith}
 use Rattle.complete.proofs.lay_missing.Goals as goal
 

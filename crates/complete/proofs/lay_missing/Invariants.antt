@@ -2,8 +2,8 @@ use Rattle.complete.specs.Loops.{Lacks}
 use Rattle.kept_laws.specs.Given.{sized}
 use Rattle.kept.specs.Tables.{Tables}
 use lib.ListN.{length}
-use mathlib.Core.Path.{◌≡◌, ◌∙◌}
-use Prim.Native.Nat.{◌+◌, ◌-◌}
+use mathlib.Core.Path.{◌≡◌}
+use Prim.Native.Nat.{◌-◌}
 use Rattle.complete.proofs.lay_missing.Given as goal
 
 abbrev pub invariant-loop-a : goal.invariant-loop-a

@@ -1,8 +1,7 @@
 use Rattle.complete.specs.Loops.{fails_none, fails_next, fails_stop, fails_done}
 use Rattle.kept_laws.specs.Given.{rooted}
 use Rattle.kept_laws.specs.OptionLaws.{not-true, not-false}
-use Prim.Native.Nat.{◌-◌, ◌≤◌}
-use mathlib.Core.Path.{◌≡◌, refl, ◌∙◌}
+use mathlib.Core.Path.{refl, ◌∙◌}
 use native.Mathlib.Omega.{arith}
 use borrow.Author.Rules.{rules}
 use Rattle.complete.proofs.lay_roots.Goals as goal

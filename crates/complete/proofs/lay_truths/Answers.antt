@@ -1,8 +1,7 @@
 use Rattle.complete.specs.Loops.{truths_none, truths_next, truths_stop, truths_done}
 use Rattle.complete.specs.Phases.{viewed}
 use Rattle.kept_laws.specs.OptionLaws.{not-true, not-false}
-use Prim.Native.Nat.{◌-◌, ◌≤◌}
-use mathlib.Core.Path.{◌≡◌, refl, ◌∙◌}
+use mathlib.Core.Path.{refl, ◌∙◌}
 use native.Mathlib.Omega.{arith}
 use borrow.Author.Rules.{rules}
 use Rattle.complete.proofs.lay_truths.Goals as goal

@@ -3,7 +3,7 @@ use Rattle.complete.specs.Phases.{viewed}
 use Rattle.kept.specs.Tables.{Tables}
 use lib.ListN.{length}
 use Prim.Native.Nat.{◌-◌, ◌≤◌}
-use mathlib.Core.Path.{◌≡◌, ◌∙◌}
+use mathlib.Core.Path.{◌≡◌}
 use Rattle.complete.proofs.lay_truths.Given as goal
 
 abbrev pub invariant-loop-k : goal.invariant-loop-k

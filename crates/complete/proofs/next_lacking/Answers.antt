@@ -1,8 +1,8 @@
 use Rattle.complete.specs.Search.{next_within, word_found, word-passed}
 use lib.Count.{trailing_le}
 use Rattle.words.specs.PlaceLaws.{place_trailing}
-use mathlib.Core.Path.{◌≡◌, refl, sym, ◌∙◌}
-use Prim.Native.Nat.{◌-◌, ◌≤◌, ◌/◌, ◌%◌, ◌^◌}
+use mathlib.Core.Path.{refl, sym, ◌∙◌}
+use Prim.Native.Nat.{◌/◌, ◌%◌, ◌^◌}
 use native.Mathlib.Nat.{div-le_self}
 use native.Mathlib.Omega.{arith}
 use borrow.Author.Rules.{rules}

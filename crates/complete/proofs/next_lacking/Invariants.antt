@@ -1,6 +1,6 @@
 use Rattle.complete.specs.Search.{next_lacking}
-use mathlib.Core.Path.{◌≡◌, ◌∙◌}
-use Prim.Native.Nat.{◌-◌, ◌≤◌, ◌/◌, ◌%◌, ◌^◌}
+use mathlib.Core.Path.{◌≡◌}
+use Prim.Native.Nat.{◌-◌, ◌≤◌}
 use Rattle.complete.proofs.next_lacking.Given as goal
 
 abbrev pub invariant-loop-a : goal.invariant-loop-a

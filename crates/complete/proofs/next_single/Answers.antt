@@ -1,7 +1,6 @@
 use borrow.Author.Rules.{rules}
 use Rattle.complete.specs.Search.{next_found, next_passed, next-end}
-use mathlib.Core.Path.{◌≡◌, refl, sym, ◌∙◌}
-use Prim.Native.Nat.{◌-◌, ◌≤◌}
+use mathlib.Core.Path.{refl, sym, ◌∙◌}
 use Rattle.complete.proofs.next_single.Goals as goal
 
 pub loop-a-init : goal.loop-a-init

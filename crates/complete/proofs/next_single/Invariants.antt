@@ -1,5 +1,5 @@
 use Rattle.complete.specs.Search.{next_lacking}
-use mathlib.Core.Path.{◌≡◌, ◌∙◌}
+use mathlib.Core.Path.{◌≡◌}
 use Prim.Native.Nat.{◌-◌, ◌≤◌}
 use Rattle.complete.proofs.next_single.Given as goal
 

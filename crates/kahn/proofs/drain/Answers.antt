@@ -1,4 +1,3 @@
-use Prim.Native.Nat.{◌-◌}
 use native.Mathlib.Omega.{arith}
 use Rattle.kahn.proofs.Kept.{sized-kept}
 use Rattle.kahn.proofs.Queue.{emptying_starts, emptying_more, emptying_ends}

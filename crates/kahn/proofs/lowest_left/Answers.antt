@@ -1,6 +1,4 @@
-use Prim.Native.Nat.{◌+◌, ◌-◌, ◌≤◌}
 use native.Mathlib.Nat.{sub-zero}
-use mathlib.Core.Path.{◌≡◌}
 use borrow.Author.Rules.{rules}
 use Rattle.kahn.proofs.Left.{left_here, left_past, left_none, left_test, done_test}
 use Rattle.kahn.proofs.lowest_left.Goals as goal

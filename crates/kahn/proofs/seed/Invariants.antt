@@ -1,5 +1,4 @@
 use Prim.Native.Nat.{◌-◌, ◌≤◌}
-use mathlib.Core.Path.{◌≡◌}
 use Rattle.kahn.specs.Seeding.{Seeding}
 use Rattle.kahn.proofs.seed.Given as goal
 

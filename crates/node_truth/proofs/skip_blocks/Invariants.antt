@@ -1,5 +1,5 @@
 use Prim.Native.Nat.{◌-◌, ◌≤◌}
-use mathlib.Core.Path.{◌≡◌, ◌∙◌}
+use mathlib.Core.Path.{◌≡◌}
 use Rattle.theory.specs.Node.{span}
 use Rattle.kept.specs.Seen.{group_seen}
 use Rattle.node_truth.specs.InWords.{true_in}

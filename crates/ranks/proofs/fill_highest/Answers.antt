@@ -1,8 +1,6 @@
 use borrow.Author.Rules.{rules}
 use mathlib.Core.Path.{◌≡◌, sym, ◌∙◌, refl}
-use mathlib.Core.List.{◌++◌}
 use native.Mathlib.Omega.{arith}
-use Prim.Native.Nat.{◌+◌, ◌-◌, ◌≤◌}
 use lib.ListN.{length-set, take-append-drop}
 use lib.Seq.{drop-drop}
 use Rattle.ranks.specs.Highest.{highest_all, highest_none, class_there, fill_front, fill_back, part-rest}

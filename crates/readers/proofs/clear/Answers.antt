@@ -1,8 +1,8 @@
 use lib.ListN.{length-set}
 use borrow.Author.Rules.{rules}
 use native.Mathlib.Omega.{arith}
-use mathlib.Core.Path.{◌≡◌, ◌∙◌}
-use Prim.Native.Nat.{◌+◌, ◌-◌, ◌<◌, ◌≤◌}
+use mathlib.Core.Path.{◌∙◌}
+use Prim.Native.Nat.{◌+◌}
 use Rattle.readers.proofs.Placement.{clear_none, clear_more, head_map, head_self, head_after}
 use Rattle.readers.proofs.clear.Goals as goal
 

@@ -1,5 +1,4 @@
-use Prim.Native.Nat.{◌-◌}
-use mathlib.Core.Path.{◌≡◌, refl, ◌∙◌}
+use mathlib.Core.Path.{refl, ◌∙◌}
 use Rattle.readers.proofs.Pass.{numbers_all, number_fits, number_next, numbers_done}
 use Rattle.readers.proofs.count_nodes.Goals as goal
 

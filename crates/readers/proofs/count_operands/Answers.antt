@@ -1,5 +1,4 @@
-use Prim.Native.Nat.{◌-◌, ◌≤◌}
-use mathlib.Core.Path.{◌≡◌, ◌∙◌, refl}
+use mathlib.Core.Path.{◌∙◌, refl}
 use Rattle.readers.proofs.Pass.{span_all, span_turn, span_done}
 use Rattle.readers.proofs.count_operands.Goals as goal
 

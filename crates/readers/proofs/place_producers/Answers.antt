@@ -1,4 +1,3 @@
-use Prim.Native.Nat.{◌-◌}
 use native.Mathlib.Omega.{arith}
 use mathlib.Core.Path.{◌≡◌, refl, ap, ◌∙◌}
 use lib.ListN.{length}
@@ -11,9 +10,9 @@ use Rattle.readers.proofs.place_producers.Goals.{Joined-body-ne0, then-body-ne0,
 
 turned : (c : Joined-body-ne0) → (length c.if-body-ne0.table ≡ length c.loop-i.table) × (c.if-body-ne0.table ≡ placed_all (producer_items c.args.producers.now c.loop-i.i) c.loop-i.table)
 turned c =
-    elim c.if-body-ne0.branch
-    [ then-body-ne0 w ↦ (ap length w.table-is ∙ w.place_one.auto.table, w.table-is ∙ w.place_one.ensures ∙ pass_one _ _ _ _ (body_one _ _ _ c.word-body.ensures.value _ w.producer.ensures w.if-body-ne0.true))
-    | else-body-ne0 w ↦ (ap length w.table-is, w.table-is ∙ pass_none _ _ _ (body_none _ _ _ c.word-body.ensures.value w.if-body-ne0.false))
+    elim c.if-body-ne0.branch [
+      | then-body-ne0 w ↦ (ap length w.table-is ∙ w.place_one.auto.table, w.table-is ∙ w.place_one.ensures ∙ pass_one _ _ _ _ (body_one _ _ _ c.word-body.ensures.value _ w.producer.ensures w.if-body-ne0.true))
+      | else-body-ne0 w ↦ (ap length w.table-is, w.table-is ∙ pass_none _ _ _ (body_none _ _ _ c.word-body.ensures.value w.if-body-ne0.false))
     ]
 
 pub loop-i-init : goal.loop-i-init

@@ -1,6 +1,5 @@
-use Prim.Native.Nat.{◌-◌}
 use native.Mathlib.Omega.{arith}
-use mathlib.Core.Path.{◌≡◌, ◌∙◌, refl}
+use mathlib.Core.Path.{◌∙◌, refl}
 use Rattle.readers.proofs.Steps.{root_one}
 use Rattle.readers.proofs.Pass.{numbers_all, number_fits, number_next, numbers_done, room_one, pass_one}
 use Rattle.readers.proofs.place_roots.Goals as goal

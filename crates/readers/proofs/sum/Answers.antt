@@ -2,7 +2,6 @@ use borrow.Author.Rules.{rules}
 use native.Mathlib.Omega.{arith}
 use native.Mathlib.Nat.{le_refl}
 use mathlib.Core.Path.{◌∙◌}
-use Prim.Native.Nat.{◌+◌, ◌-◌, ◌≤◌}
 use Rattle.readers.proofs.Placement.{sum_start, sum_none, sum_next, sum_more, total_least, head_map}
 use Rattle.readers.proofs.sum.Goals as goal
 

@@ -1,4 +1,3 @@
-use mathlib.Core.Path.{◌∙◌}
 use Prim.Native.Nat.{◌+◌, ◌-◌, ◌≤◌}
 use Rattle.readers.specs.Placement.{Head, Summed}
 use Rattle.readers.proofs.Placement.{Summing}

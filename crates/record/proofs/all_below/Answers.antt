@@ -1,7 +1,5 @@
-use Prim.Native.Nat.{◌+◌, ◌-◌, ◌*◌, ◌≤◌}
-use mathlib.Core.Path.{◌≡◌, ap}
+use mathlib.Core.Path.{ap}
 use Rattle.theory.specs.Admission.{all_below}
-use Rattle.record.specs.Number.{number}
 use Rattle.record.proofs.Laws.{numbers_all, below_stop, below_go, below_done}
 use borrow.Author.Rules.{rules}
 use Rattle.record.proofs.all_below.Goals as goal

@@ -1,5 +1,3 @@
-use Prim.Native.Nat.{◌+◌, ◌-◌, ◌*◌, ◌≤◌}
-use mathlib.Core.Path.{◌≡◌}
 use Rattle.record.proofs.Laws.{rising_stop, rising_go, rising_done, rising_none, rising-first}
 use borrow.Author.Rules.{rules}
 use Rattle.record.proofs.is_rising.Goals as goal

@@ -14,28 +14,29 @@ pub returns-then-first-counts : goal.returns-then-first-counts
 returns-then-first-counts c = λ T. queue_alone (sized c.args.counts T) c.args.kept.now c.requires.2 c.args.m _ c.word-first.ensures.value (omega (arith, c.if-m-first.true, c.if-m-first-2.false)) c.if-first-counts.true
 
 pub put_behind-requires : goal.put_behind-requires
-put_behind-requires c =
-    (c.requires.0,
-    elim c.if-m-first.branch
-    [ then-m-first+else-m-first-2+else-first-counts w ↦ omega (arith, w.other-is, w.if-first-counts.false)
+put_behind-requires c = (
+  c.requires.0,
+  elim c.if-m-first.branch [
+    | then-m-first+else-m-first-2+else-first-counts w ↦ omega (arith, w.other-is, w.if-first-counts.false)
     | else-m-first w ↦ omega (arith, w.other-is, c.requires.1)
-    ],
-    elim c.if-m-first.branch
-    [ then-m-first+else-m-first-2+else-first-counts w ↦ rw w.kept-is (search rules)
+  ],
+  elim c.if-m-first.branch [
+    | then-m-first+else-m-first-2+else-first-counts w ↦ rw w.kept-is (search rules)
     | else-m-first w ↦ rw w.kept-is c.requires.2
-    ])
+  ],
+)
 
 pub shape_of-kept : goal.shape_of-kept
 shape_of-kept c =
     c.put_behind.auto.kept
-    ∙ (elim c.if-m-first.branch
-    [ then-m-first+else-m-first-2+else-first-counts w ↦ ap length w.kept-is ∙ simp length-set
-    | else-m-first w ↦ ap length w.kept-is
+    ∙ (elim c.if-m-first.branch [
+      | then-m-first+else-m-first-2+else-first-counts w ↦ ap length w.kept-is ∙ simp length-set
+      | else-m-first w ↦ ap length w.kept-is
     ])
 
 pub returns : goal.returns
 returns c = λ T.
-    elim c.if-m-first.branch
-    [ then-m-first+else-m-first-2+else-first-counts w ↦ queue_before (sized c.args.counts T) c.args.kept.now c.requires.2 c.args.m _ c.word-first.ensures.value _ _ _ _ (c.put_behind.ensures T) (omega (arith, w.if-m-first.true, w.if-m-first-2.false)) w.if-first-counts.false w.kept-is w.other-is
-    | else-m-first w ↦ queue_after (sized c.args.counts T) c.args.kept.now c.requires.2 c.args.m _ c.word-first.ensures.value _ _ _ _ (c.put_behind.ensures T) w.if-m-first.false w.kept-is w.other-is
+    elim c.if-m-first.branch [
+      | then-m-first+else-m-first-2+else-first-counts w ↦ queue_before (sized c.args.counts T) c.args.kept.now c.requires.2 c.args.m _ c.word-first.ensures.value _ _ _ _ (c.put_behind.ensures T) (omega (arith, w.if-m-first.true, w.if-m-first-2.false)) w.if-first-counts.false w.kept-is w.other-is
+      | else-m-first w ↦ queue_after (sized c.args.counts T) c.args.kept.now c.requires.2 c.args.m _ c.word-first.ensures.value _ _ _ _ (c.put_behind.ensures T) w.if-m-first.false w.kept-is w.other-is
     ]

@@ -1,7 +1,5 @@
-use Prim.Native.Nat.{◌-◌, ◌≤◌}
 use native.Mathlib.Omega.{arith}
 use mathlib.Core.Path.{◌≡◌, refl}
-use mathlib.Core.List.{◌++◌}
 use lib.ListN.{length-set}
 use Rattle.run.specs.RunLaws.{copy_more}
 use borrow.Author.Rules.{rules}

@@ -1,7 +1,6 @@
 use Rattle.kept_laws.specs.OptionLaws.{not-true, not-false}
-use Prim.Native.Nat.{◌≤◌, ◌-◌}
 use native.Mathlib.Omega.{arith}
-use mathlib.Core.Path.{◌≡◌, refl, ◌∙◌}
+use mathlib.Core.Path.{refl, ◌∙◌}
 use Rattle.kept_laws.specs.Given.{sized}
 use Rattle.start.specs.EnterLaws.{entering_first, entering_done, entering_out, entering_full, entering_more}
 use Rattle.start.proofs.enter_all.Goals as goal

@@ -1,7 +1,5 @@
-use Prim.Native.Nat.{◌<◌, ◌+◌, ◌*◌, ◌^◌}
 use native.Mathlib.Omega.{arith}
-use mathlib.Core.Path.{◌≡◌, refl, ap}
-use mathlib.Core.Bool.{true}
+use mathlib.Core.Path.{refl, ap}
 use lib.ListN.{length}
 use lib.Bits.{xor_lt}
 use Rattle.words.specs.PlaceLaws.{place_below, place_set, place_some, place_off}
@@ -21,15 +19,15 @@ pub lay_pair-requires : goal.lay_pair-requires
 lay_pair-requires c = (c.requires.limited.0, c.requires.limited.2, c.requires.limited.3)
 
 pub loop-counts-init : goal.loop-counts-init
-loop-counts-init c =     let t : Tables → Tables = λ T. listed c.args.counts c.args.readers.now T in (
-      λ T J same. turning_first (t T) J 64 _ c.args.j _ (omega (arith, c.requires.limited.2, c.lay_pair.auto.kept)),
-      pair_within (t (bare c.args.counts)) c.args.kept.now c.args.j _ _ (c.old_pair.ensures (t (bare c.args.counts))) (c.requires.k_bound (bare c.args.counts)),
-      refl,
-      xor_lt 64 _ _ c.old_pair.type_inv c.ranges.new.fits,
-    )
+loop-counts-init c = let t : Tables → Tables = λ T. listed c.args.counts c.args.readers.now T in (
+  λ T J same. turning_first (t T) J 64 _ c.args.j _ (omega (arith, c.requires.limited.2, c.lay_pair.auto.kept)),
+  pair_within (t (bare c.args.counts)) c.args.kept.now c.args.j _ _ (c.old_pair.ensures (t (bare c.args.counts))) (c.requires.k_bound (bare c.args.counts)),
+  refl,
+  xor_lt 64 _ _ c.old_pair.type_inv c.ranges.new.fits,
+)
 
 pub returns-then-k-eq64 : goal.returns-then-k-eq64
-returns-then-k-eq64 c =     λ T J same.
+returns-then-k-eq64 c = λ T J same.
     let t = listed c.args.counts c.args.readers.now T in
     pair_turned t c.args.kept.now c.requires.limited.2 (λ k. omega (arith, c.slice_known-1.given k)) c.args.j _ c.ranges.new.fits c.requires.limited.3 _
     c.lay_pair.ensures (c.requires.k_bound T) J same _ (c.old_pair.ensures t) _ _
@@ -56,24 +54,24 @@ turn_atom-requires c = (
 )
 
 pub returns-then-not-turn_atom : goal.returns-then-not-turn_atom
-returns-then-not-turn_atom c =         λ T J same.
+returns-then-not-turn_atom c = λ T J same.
     let t = listed c.args.counts c.args.readers.now T in
     pair_turned t c.args.kept.now c.requires.limited.2 (λ k. omega (arith, c.slice_known-1.given k)) c.args.j _ c.ranges.new.fits c.requires.limited.3 _
     c.lay_pair.ensures (c.requires.k_bound T) J same _ (c.old_pair.ensures t) _ _
     (turning_stray t J 64 _ c.args.j _ (omega (arith, c.requires.limited.2, c.lay_pair.auto.kept)) _ _ (c.loop-counts.invariant.0 T J same) _ c.bits-k.ensures c.if-k-eq64.false c.loop-counts.invariant.3 _ _ (c.turn_atom.ensures T J (place_read _ _ _ (same _ (place_below 64 _ _ c.bits-k.ensures c.if-k-eq64.false)))) (not-true _ c.if-not-turn_atom.true-raw))
 
 pub overflow_sub-x : goal.overflow_sub-x
-overflow_sub-x c =     place_some 64 _ _ c.bits-k.ensures c.if-k-eq64.false
+overflow_sub-x c = place_some 64 _ _ c.bits-k.ensures c.if-k-eq64.false
 
 pub loop-counts-smaller : goal.loop-counts-smaller
-loop-counts-smaller c =     omega (arith, ap length (place_off 64 _ _ c.bits-k.ensures c.if-k-eq64.false c.loop-counts.invariant.3))
+loop-counts-smaller c = omega (arith, ap length (place_off 64 _ _ c.bits-k.ensures c.if-k-eq64.false c.loop-counts.invariant.3))
 
 pub loop-counts-preserved : goal.loop-counts-preserved
-loop-counts-preserved c =     (
-      λ T J same.
-          turning_more (listed c.args.counts c.args.readers.now T) J 64 _ c.args.j _ (omega (arith, c.requires.limited.2, c.lay_pair.auto.kept)) _ _ (c.loop-counts.invariant.0 T J same) _
-          c.bits-k.ensures c.if-k-eq64.false c.loop-counts.invariant.3 _ _ (c.turn_atom.ensures T J (place_read _ _ _ (same _ (place_below 64 _ _ c.bits-k.ensures c.if-k-eq64.false)))) (not-false _ c.if-not-turn_atom.false-raw),
-      λ k l e. c.loop-counts.invariant.1 k l (off_set _ k e),
-      omega (arith, c.loop-counts.invariant.2, c.turn_atom.auto.kept),
-      off_small 64 _ c.loop-counts.invariant.3,
-    )
+loop-counts-preserved c = (
+  λ T J same.
+      turning_more (listed c.args.counts c.args.readers.now T) J 64 _ c.args.j _ (omega (arith, c.requires.limited.2, c.lay_pair.auto.kept)) _ _ (c.loop-counts.invariant.0 T J same) _
+      c.bits-k.ensures c.if-k-eq64.false c.loop-counts.invariant.3 _ _ (c.turn_atom.ensures T J (place_read _ _ _ (same _ (place_below 64 _ _ c.bits-k.ensures c.if-k-eq64.false)))) (not-false _ c.if-not-turn_atom.false-raw),
+  λ k l e. c.loop-counts.invariant.1 k l (off_set _ k e),
+  omega (arith, c.loop-counts.invariant.2, c.turn_atom.auto.kept),
+  off_small 64 _ c.loop-counts.invariant.3,
+)

@@ -1,10 +1,6 @@
-use Prim.Native.Nat.{ℕ}
-use mathlib.Core.Path.{◌≡◌, sym, ap, ◌∙◌}
-use mathlib.Core.Logic.{⊎_elim}
-use denote.Enum.Declared.{tag_of}
+use mathlib.Core.Path.{◌≡◌}
 use native.Mathlib.Omega.{arith}
 use Rattle.node_truth.specs.declared.Seen.TheVariants.{Stray}
-use Rattle.node_truth.specs.contracts.Seen.{the_type}
 use Rattle.kept_laws.specs.Given.{walked}
 use Rattle.step.specs.StepLaws.{step_lost, step-none, step_stray, step_taken}
 use Rattle.step.proofs.step.Goals as goal

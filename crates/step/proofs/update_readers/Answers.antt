@@ -1,8 +1,6 @@
 use Rattle.step.specs.TurnLaws.{telling_none, telling_done, telling_stop, telling_more}
 use Rattle.kept_laws.specs.Given.{produced}
 use Rattle.kept_laws.specs.OptionLaws.{not-true, not-false}
-use Prim.Native.Nat.{◌-◌}
-use mathlib.Core.Path.{◌≡◌}
 use borrow.Author.Rules.{rules}
 use Rattle.step.proofs.update_readers.Goals as goal
 

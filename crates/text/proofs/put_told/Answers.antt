@@ -9,10 +9,10 @@ put_field-end-requires-2 c = omega (arith, put_end 21 c.put_field-end.ensures (l
 
 pub put_field-end-requires-then-t-ge3 : goal.put_field-end-requires-then-t-ge3
 put_field-end-requires-then-t-ge3 c = omega (
-      arith,
-      put_end 21 c.put_field-end.ensures (length-field c.args.t.number),
-      put_end 21 c.put_field-end-2.ensures (length-field c.args.t.place),
-    )
+  arith,
+  put_end 21 c.put_field-end.ensures (length-field c.args.t.number),
+  put_end 21 c.put_field-end-2.ensures (length-field c.args.t.place),
+)
 
 pub returns-then-t-ge3 : goal.returns-then-t-ge3
 returns-then-t-ge3 c = put_told_three c.args.t.number c.args.t.place c.args.t.body c.args.t.fields c.put_field-end.ensures c.put_field-end-2.ensures c.if-t-ge3.true c.put_field-end-then-t-ge3.ensures

@@ -8,13 +8,13 @@ use Rattle.text.proofs.refused_line.Goals as goal
 
 pub put-requires : goal.put-requires
 put-requires c = omega (
-      arith,
-      c.put_text-end.ensures.on,
-      c.put_told-end.ensures.on,
-      length-spaced (told_of c.numbers_of.result),
-      ap length c.numbers_of.ensures,
-      length-told c.args.r,
-    )
+  arith,
+  c.put_text-end.ensures.on,
+  c.put_told-end.ensures.on,
+  length-spaced (told_of c.numbers_of.result),
+  ap length c.numbers_of.ensures,
+  length-told c.args.r,
+)
 
 pub returns : goal.returns
 returns c = put_refused_line c.args.r (told_of c.numbers_of.result) c.numbers_of.ensures c.put_text-end.ensures c.put_told-end.ensures c.put.ensures

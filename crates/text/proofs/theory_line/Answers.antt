@@ -58,18 +58,18 @@ put_labelled-end-requires-5 c = (
 
 pub put-requires : goal.put-requires
 put-requires c = omega (
-      arith,
-      c.put_labelled-end.ensures.on,
-      length-field c.args.counts.stamp,
-      c.put_labelled-end-2.ensures.on,
-      length-field c.args.counts.atoms,
-      c.put_labelled-end-3.ensures.on,
-      length-field c.args.counts.nodes,
-      c.put_labelled-end-4.ensures.on,
-      length-field c.args.counts.roots,
-      c.put_labelled-end-5.ensures.on,
-      length-field c.args.producers,
-    )
+  arith,
+  c.put_labelled-end.ensures.on,
+  length-field c.args.counts.stamp,
+  c.put_labelled-end-2.ensures.on,
+  length-field c.args.counts.atoms,
+  c.put_labelled-end-3.ensures.on,
+  length-field c.args.counts.nodes,
+  c.put_labelled-end-4.ensures.on,
+  length-field c.args.counts.roots,
+  c.put_labelled-end-5.ensures.on,
+  length-field c.args.producers,
+)
 
 pub returns : goal.returns
 returns c = put_theory_line c.args.counts c.args.producers c.put_labelled-end.ensures c.put_labelled-end-2.ensures c.put_labelled-end-3.ensures c.put_labelled-end-4.ensures c.put_labelled-end-5.ensures c.put.ensures

@@ -1,8 +1,7 @@
 use borrow.Author.Rules.{rules}
 use native.Mathlib.Omega.{arith}
 use native.Mathlib.Nat.{sub-zero}
-use mathlib.Core.Path.{◌≡◌, sym, ◌∙◌}
-use Prim.Native.Nat.{◌-◌, ◌≤◌}
+use mathlib.Core.Path.{sym, ◌∙◌}
 use Rattle.theory.specs.Admission.{nodes_admission}
 use Rattle.theory.specs.Refusals.{first_stop, first_go, first_done, start_none, start_more, node_seen_lem, end_within}
 use Rattle.theory.proofs.admit_nodes.Goals as goal

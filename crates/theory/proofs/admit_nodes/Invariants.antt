@@ -1,4 +1,4 @@
-use mathlib.Core.Path.{◌≡◌, ◌∙◌}
+use mathlib.Core.Path.{◌≡◌}
 use Prim.Native.Nat.{◌-◌, ◌≤◌}
 use Rattle.theory.specs.Node.{node_at}
 use Rattle.theory.specs.Admission.{first_refusal, node_admission, nodes_admission, span_start}

@@ -1,8 +1,6 @@
 use borrow.Author.Rules.{rules}
 use borrow.Author.Tests.{lt-ltb, le-ltb}
 use native.Mathlib.Nat.{sub-zero}
-use mathlib.Core.Path.{◌≡◌}
-use Prim.Native.Nat.{◌-◌, ◌≤◌}
 use Rattle.theory.specs.Admission.{root_admission, roots_admission}
 use Rattle.theory.specs.Refusals.{first_stop, first_go, first_done}
 use Rattle.theory.proofs.admit_roots.Goals as goal

@@ -2,9 +2,8 @@ use Rattle.kept_laws.specs.Given.{bare}
 use Rattle.update.specs.WalkLaws.{walk_begins, walk_turns, walk_stands, walk_breaks}
 use Rattle.update.specs.Results.{lent}
 use Rattle.kept.specs.Layout.{of_words}
-use mathlib.Core.Path.{◌≡◌, refl, ◌∙◌}
+use mathlib.Core.Path.{refl, ◌∙◌}
 use native.Mathlib.Omega.{arith}
-use Prim.Native.Nat.{◌+◌, ◌-◌, ◌≤◌}
 use Rattle.update.proofs.walk.Goals as goal
 
 pub loop-kept-init : goal.loop-kept-init

@@ -2,7 +2,7 @@ use Rattle.update.specs.WalkLaws.{Walking}
 use Rattle.update.specs.Results.{lent}
 use Rattle.kept.specs.Tables.{Tables}
 use lib.ListN.{length, get_or}
-use mathlib.Core.Path.{◌≡◌, ◌∙◌}
+use mathlib.Core.Path.{◌≡◌}
 use Prim.Native.Nat.{◌+◌, ◌-◌, ◌≤◌}
 use Rattle.update.proofs.walk.Given as goal
 

@@ -1,7 +1,5 @@
 use borrow.Author.Rules.{rules}
 use native.Mathlib.Omega.{arith}
-use mathlib.Core.Path.{◌≡◌}
-use Prim.Native.Nat.{◌-◌, ◌≤◌}
 use lib.ListN.{length-set}
 use Rattle.base.specs.Front.{front_none}
 use Rattle.words.specs.Zeros.{zeros_more, zeros_all}

@@ -1,6 +1,6 @@
 use borrow.Author.Rules.{rules}
 use native.Mathlib.Omega.{arith}
-use Prim.Native.Nat.{◌+◌, ◌-◌, ◌≤◌}
+use Prim.Native.Nat.{◌+◌}
 use Rattle.words.proofs.Blocks.{gathered_none, gathered_more, gathered_all}
 use Rattle.words.proofs.set32.block_empty.Goals as goal
 
