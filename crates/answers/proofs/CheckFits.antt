@@ -36,12 +36,12 @@ use Rattle.kept.specs.Start.{walk_start}
 use Rattle.kept.specs.Walk.{Walked, ended, broken, after, onward, walk, walk_from, kept_walk}
 use Rattle.kept.specs.Check as check
 use Rattle.kept.specs.Check.{entry, seen_entry, node_entry, producer_entry, root_entry, tables_admission, fresh_result, kept_result, is_kept, result}
-use Rattle.kept.proofs.EntryLaws.{root_within}
+use Rattle.kept.specs.EntryLaws.{root_within}
 use Rattle.kept.specs.Candidate.{Candidate, atoms_of, listed_words}
 use Rattle.kept.specs.Layout.{of_words}
 use Rattle.kept.specs.LayoutLaws.{Fits, room, fits_of}
 use Rattle.kept.specs.Tests.{Buffer, buffers, first_short, stamps, stray_bit, tests}
-use Rattle.kept.proofs.TestLaws.{lent_long}
+use Rattle.kept.specs.TestLaws.{lent_long}
 use Rattle.kept.specs.Outcome.{accepted, concluded, outcome_at, outcome}
 use Rattle.kept_laws.specs.WalkEnds.{Rises}
 use Rattle.kept_laws.proofs.AnyWords.{kept_ends}

@@ -14,7 +14,7 @@ use Rattle.kept.specs.Tables.{Tables, node_count}
 use Rattle.kept.specs.Evaluation.{Evaluation, truth_at, present, truth_word, truth}
 use Rattle.kept.specs.Parts.{with_truths}
 use Rattle.kept.specs.Seen.{seen_by}
-use Rattle.kept.proofs.SeenLaws.{seen_agree, seen-is}
+use Rattle.kept.specs.SeenLaws.{seen_agree, seen-is}
 use Rattle.kept.specs.Check.{node_entry}
 use Rattle.kept.specs.LayoutLaws.{Fits}
 use Rattle.kept_laws.specs.Filling.{filled, filled_none, filled_all, filled_next}

@@ -33,7 +33,7 @@ use Rattle.kept.specs.Layout.{of_words, listed}
 use Rattle.kept.specs.Check as check
 use Rattle.kept.specs.Check.{result}
 use Rattle.kept.specs.Tests.{tests}
-use Rattle.kept.proofs.TestLaws.{tests-not_17}
+use Rattle.kept.specs.TestLaws.{tests-not_17}
 use Rattle.kept.specs.Outcome as kept
 use Rattle.kept.specs.Outcome.{cleared, concluded, outcome_at, outcome}
 use Rattle.kept_laws.proofs.AnyWords.{outcome_keeps}

@@ -23,7 +23,7 @@ use Rattle.kept.specs.SetOf.{words64}
 use Rattle.kept.specs.Tables.{Tables, atom_count, node_count, root_count}
 use Rattle.kept.specs.Evaluation as evaluation
 use Rattle.kept.specs.Evaluation.{Evaluation}
-use Rattle.kept.proofs.EntryLaws.{root_within}
+use Rattle.kept.specs.EntryLaws.{root_within}
 use Rattle.kept.proofs.VerdictLaws.{verdict-fresh}
 use Rattle.kept.specs.Walk.{walk, kept_walk}
 use Rattle.kept.proofs.WalkLaws.{fresh_idle}
@@ -33,7 +33,7 @@ use Rattle.kept.specs.Layout.{of_words, written, used, listed}
 use Rattle.kept.specs.LayoutLaws.{room, fits_fresh}
 use Rattle.kept.specs.Candidate.{Candidate, listed_words, atoms_of}
 use Rattle.kept.specs.Tests.{buffers, first_short, stamps, stray_bit, tests}
-use Rattle.kept.proofs.TestLaws.{atoms_within, lent_long}
+use Rattle.kept.specs.TestLaws.{atoms_within, lent_long}
 use Rattle.kept.specs.Outcome as outcomes
 use Rattle.kept.specs.Outcome.{cleared, outcome_at, outcome}
 use Rattle.kept_laws.specs.Turns.{resumed, walk_done}

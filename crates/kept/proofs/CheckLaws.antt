@@ -25,7 +25,7 @@ use Rattle.kept.specs.Dirty.{dirty}
 use Rattle.kept.specs.Walk.{kept_walk}
 use Rattle.kept.specs.Check.{accepted, node_entry, producer_entry, root_entry, tables_admission, fresh_result, kept_result, changes, most, is_kept, result}
 use Rattle.kept.specs.Consistent.{Consistent}
-use Rattle.kept.proofs.SeenLaws.{seen-sound}
+use Rattle.kept.specs.SeenLaws.{seen-sound}
 use Rattle.kept.proofs.StartLaws.{kept_fresh}
 use Rattle.kept.proofs.VerdictLaws.{verdict-fresh}
 

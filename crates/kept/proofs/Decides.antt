@@ -26,7 +26,7 @@ use Rattle.kept.specs.Verdict.{Verdict, not_model, residual, stable, verdict}
 use Rattle.kept.specs.Naming.{FirstFalse, FirstUnproduced, AllTrue, Unproduced, AllProduced, Right}
 use Rattle.kept.proofs.VerdictLaws.{verdict_right}
 use Rattle.kept.specs.Planned.{PlannedTables}
-use Rattle.kept.proofs.PlannedLaws.{root_list, length_roots, root_listed}
+use Rattle.kept.specs.PlannedLaws.{root_list, length_roots, root_listed}
 use Rattle.kept.proofs.StableLaws.{theory_is, formulas_are, truth_sat, unproduced_is, is_unproduced, model_true, true_model, to_supported, from-supported}
 use Rattle.kept.specs.Decides.{Decides, DecidesTheory}
 

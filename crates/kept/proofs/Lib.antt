@@ -7,16 +7,11 @@ pub mod Example
 pub mod Remembered
 pub mod CheckLaws
 pub mod CountedSetLaws
-pub mod EntryLaws
 pub mod HeldLaws
-pub mod PlaceLaws
-pub mod PlannedLaws
 pub mod ReaderLaws
-pub mod SeenLaws
 pub mod StableLaws
 pub mod StartLaws
 pub mod StepLaws
-pub mod TestLaws
 pub mod VerdictLaws
 pub mod WalkLaws
 pub mod WorklistLaws

@@ -8,7 +8,7 @@ use Rattle.kept.specs.Evaluation.{held, summary}
 use Rattle.kept.specs.Step.{step_at, step}
 use Rattle.kept.specs.Consistent.{Consistent}
 use Rattle.kept.specs.Planned.{PlannedTables}
-use Rattle.kept.proofs.PlannedLaws.{consistent}
+use Rattle.kept.specs.PlannedLaws.{consistent}
 use Rattle.kept.proofs.WorklistLaws.{first-none}
 use Rattle.kept.proofs.StepLaws.{step_summary}
 use Rattle.kept.proofs.StartLaws.{start_fresh}

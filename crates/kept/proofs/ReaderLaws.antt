@@ -17,7 +17,7 @@ use Rattle.base.specs.Places.{places, count, count_agree, count_most}
 use Rattle.readers.specs.Joined.{joined, joined-more}
 use Rattle.readers.specs.Reader.{node_reader, producer_reader, root_reader, reading_of, packed_read}
 use Rattle.readers.specs.Readers.{occurrences, reading_node, readers_of}
-use Rattle.kept.proofs.PlaceLaws.{last_yes, last_no}
+use Rattle.kept.specs.PlaceLaws.{last_yes, last_no}
 use Rattle.kept.specs.Tabulate.{updated, updated_here, updated_there, updated_is, switched, switched_below, switched-from, switched_other}
 use Rattle.kept.specs.SetOfLaws.{ltb-suc}
 use Rattle.kept.specs.CountedSet.{and_then, moved}

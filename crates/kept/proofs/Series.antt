@@ -27,9 +27,9 @@ use Rattle.kept.specs.LayoutLaws.{Fits, fits_fresh, fits_zeroed, of_image, writt
 use Rattle.kept.specs.Candidate.{Candidate, atoms_of}
 use Rattle.kept.specs.Tests.{tests}
 use Rattle.kept.specs.Outcome.{accepted, refused, Outcome, concluded, outcome_at, outcome}
-use Rattle.kept.proofs.TestLaws.{tests-not_17, atoms_within}
+use Rattle.kept.specs.TestLaws.{tests-not_17, atoms_within}
 use Rattle.kept.specs.Planned.{PlannedTables}
-use Rattle.kept.proofs.PlannedLaws.{consistent}
+use Rattle.kept.specs.PlannedLaws.{consistent}
 use Rattle.kept.specs.Series.{is_accepted, zeroed_words, answer_to, series_words, last_accepted, anew, GoneOver, SeriesCheck, Demand3}
 use Rattle.kept.proofs.Walk.{walk}
 use Rattle.kept.proofs.Decides.{decided}

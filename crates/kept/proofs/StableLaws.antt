@@ -31,7 +31,7 @@ use Rattle.kept.specs.Tables.{Tables, atom_count, root_count, root_at, body_at}
 use Rattle.kept.specs.Evaluation.{truth, body_true}
 use Rattle.kept.specs.Naming.{AllTrue, Unproduced, AllProduced}
 use Rattle.kept.specs.Planned.{classes_in, producers_in, PlannedTables}
-use Rattle.kept.proofs.PlannedLaws.{no_producer, root_list, Supported, length_roots, root_listed, roots_supported_lem, well, head_is, body_is}
+use Rattle.kept.specs.PlannedLaws.{no_producer, root_list, Supported, length_roots, root_listed, roots_supported_lem, well, head_is, body_is}
 
 -- ---- the theory's formulas
 

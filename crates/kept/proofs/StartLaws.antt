@@ -20,7 +20,7 @@ use Rattle.words.specs.Changed.{unlike}
 use Rattle.words.specs.Sets.{member}
 use Rattle.words.specs.Next.{next}
 use Rattle.readers.specs.AtomNodes.{is_atom_of, atom_nodes_of}
-use Rattle.kept.proofs.PlaceLaws.{last_yes, last_no}
+use Rattle.kept.specs.PlaceLaws.{last_yes, last_no}
 use Rattle.kept.specs.Tabulate.{updated, updated_is, updated_same, switched, switched_below, switched-from, switched_next}
 use Rattle.kept.specs.SetOf.{set_of}
 use Rattle.kept.specs.SetOfLaws.{ltb-suc, member_above, length-set_of}

@@ -22,7 +22,7 @@ use Rattle.kept.specs.Tables.{Tables, node_count, operands_at, sound}
 use Rattle.kept.specs.Evaluation.{Evaluation, truth_at, present, held, truth, support, false_root, summary}
 use Rattle.kept.specs.Step.{took, settled, seen, step_at, step}
 use Rattle.kept.specs.Consistent.{Consistent, operands_lower, atom_lower}
-use Rattle.kept.proofs.SeenLaws.{seen-sound}
+use Rattle.kept.specs.SeenLaws.{seen-sound}
 use Rattle.kept.proofs.HeldLaws.{truth-held, present-held, truths_held}
 use Rattle.kept.specs.PlainWalk.{among, truth_by, waiting_after}
 use Rattle.kept.proofs.ReaderLaws.{readers-told}

@@ -1,5 +1,6 @@
 pub mod Tabulate
 pub mod SetOf
+pub mod SetOfLaws
 pub mod CountedSet
 pub mod Worklist
 pub mod Tables
@@ -19,9 +20,13 @@ pub mod Candidate
 pub mod Tests
 pub mod Outcome
 pub mod Consistent
+pub mod SeenLaws
+pub mod PlaceLaws
 pub mod Naming
 pub mod Decides
-pub mod Planned
-pub mod Series
-pub mod SetOfLaws
+pub mod EntryLaws
 pub mod LayoutLaws
+pub mod Planned
+pub mod PlannedLaws
+pub mod Series
+pub mod TestLaws

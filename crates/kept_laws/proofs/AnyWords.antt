@@ -33,7 +33,7 @@ use Rattle.kept_laws.specs.WalkEnds.{Rises, rises_lower, walk_ends}
 use Rattle.kept.specs.Candidate.{Candidate, atoms_of}
 use Rattle.kept.specs.Tests.{tests}
 use Rattle.kept.specs.Outcome.{accepted, refused, Outcome, cleared, concluded, outcome_at, outcome}
-use Rattle.kept.proofs.TestLaws.{lent_long}
+use Rattle.kept.specs.TestLaws.{lent_long}
 
 module _ (T : Tables) where
   -- ---- the kept walk

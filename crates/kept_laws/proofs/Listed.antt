@@ -27,7 +27,7 @@ use Rattle.kept.specs.Layout.{flat, image, section, of_words, written, used, lis
 use Rattle.kept.specs.LayoutLaws.{Fits, room, length-image, fits_of, image_of, of_image, written-image}
 use Rattle.kept.specs.Candidate.{Candidate, listed_words, atoms_of}
 use Rattle.kept.specs.Tests.{first_short, stamps, stray_bit, tests}
-use Rattle.kept.proofs.TestLaws.{lent_long}
+use Rattle.kept.specs.TestLaws.{lent_long}
 use Rattle.kept.specs.Outcome.{Outcome, cleared, concluded, outcome_at, outcome}
 use Rattle.kept_laws.specs.Listed.{listed_tables, listed_candidate, listed_kept, SameTables, SameCandidate, SameKept, SameOutcome}
 use Rattle.kept_laws.proofs.AnyWords.{Sound, result_sound, outcome_keeps}

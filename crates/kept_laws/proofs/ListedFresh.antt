@@ -20,10 +20,10 @@ use Rattle.theory.specs.declared.Admission.TheVariants.{Admitted, Refused}
 use Rattle.theory.specs.declared.Refusal.TheVariants.{BadEntry}
 use Rattle.kept.specs.Tables.{Tables, node_count, root_count, root_at, body_at}
 use Rattle.kept.specs.Seen.{seen_by}
-use Rattle.kept.proofs.SeenLaws.{seen-is, seen_agree}
+use Rattle.kept.specs.SeenLaws.{seen-is, seen_agree}
 use Rattle.kept.specs.Worklist.{worklist_of}
 use Rattle.kept.specs.Evaluation.{held, truth, body_true, supports, support, false_root, summary, fresh}
-use Rattle.kept.proofs.EntryLaws.{nodes_ok_lem, body_within, root_within}
+use Rattle.kept.specs.EntryLaws.{nodes_ok_lem, body_within, root_within}
 use Rattle.kept.proofs.HeldLaws.{held_agree}
 use Rattle.kept.specs.Verdict.{verdict, verdict_of}
 use Rattle.kept.proofs.VerdictLaws.{verdict-fresh}

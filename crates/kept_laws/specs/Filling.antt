@@ -9,7 +9,7 @@ use Rattle.std.proofs.Math.Dec.{ltb}
 use Rattle.std.proofs.Math.ListN.{length, length-append}
 use Rattle.std.proofs.lemmas.List.{set_at}
 use Rattle.base.specs.Places.{places, places_none, count, count_none}
-use Rattle.kept.proofs.PlaceLaws.{last_yes, last_no}
+use Rattle.kept.specs.PlaceLaws.{last_yes, last_no}
 use Rattle.kept.specs.Tabulate.{tabulate, updated, updated_is, length-tabulate, tabulate_agree, tabulate-set}
 use Rattle.kept.specs.SetOf.{set_of, all_inserted}
 use Rattle.kept.specs.SetOfLaws.{ltb-suc}

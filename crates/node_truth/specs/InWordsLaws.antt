@@ -10,7 +10,7 @@ use Rattle.words.specs.Sets.{member}
 use Rattle.kept.specs.Tables.{Tables, atom_count, node_count}
 use Rattle.kept.specs.Evaluation.{truth_at, present}
 use Rattle.kept.specs.Seen.{node_seen, seen_by}
-use Rattle.kept.proofs.SeenLaws.{node_seen_agree}
+use Rattle.kept.specs.SeenLaws.{node_seen_agree}
 use Rattle.kept.specs.Layout.{of_words, used}
 use Rattle.kept_laws.specs.Written.{get_truth, get_candidate}
 use Rattle.node_truth.specs.InWords.{true_in, present_in}
