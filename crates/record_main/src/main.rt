@@ -6,90 +6,92 @@ ghost use Rattle.record.specs.File.{theory_file, verdict};
 
 use load::Loaded;
 use record::{Judged, Summary};
+use std::io;
 use theory::Refusal;
 
-fn put_digit(d: usize) {
+fn put_digit(rt: &impl Print, d: usize) -> io::Result<()> {
     if d < 10 {
         let text = [48u8 + d as u8];
-        io::write_all(1, &text);
+        rt.write_all(&text)?;
     }
+    Ok(())
 }
 
 // A space and the number, which is below 1,000.
-fn put(n: usize) {
-    io::write_all(1, b" ");
+fn put(rt: &impl Print, n: usize) -> io::Result<()> {
+    rt.write_all(b" ")?;
     if n >= 100 {
-        put_digit(n / 100);
+        put_digit(rt, n / 100)?;
     }
     if n >= 10 {
-        put_digit(n / 10 % 10);
+        put_digit(rt, n / 10 % 10)?;
     }
-    put_digit(n % 10);
+    put_digit(rt, n % 10)
 }
 
-fn end_line() {
-    io::write_all(1, b"\n");
+fn end_line(rt: &impl Print) -> io::Result<()> {
+    rt.write_all(b"\n")
 }
 
-fn show_refusal(number: usize, place: usize) {
-    io::write_all(1, b"refused");
-    put(number);
-    put(place);
-    end_line();
+fn show_refusal(rt: &impl Print, number: usize, place: usize) -> io::Result<()> {
+    rt.write_all(b"refused")?;
+    put(rt, number)?;
+    put(rt, place)?;
+    end_line(rt)
 }
 
-fn show_refused(r: Refusal) {
+fn show_refused(rt: &impl Print, r: Refusal) -> io::Result<()> {
     match r {
-        Refusal::BadKind(k) => show_refusal(1, k),
-        Refusal::CutRecord(k) => show_refusal(2, k),
-        Refusal::PastLimit(k) => show_refusal(3, k),
-        Refusal::BadAtom(k) => show_refusal(4, k),
-        Refusal::BadOperand(k) => show_refusal(5, k),
-        Refusal::NoOperands(k) => show_refusal(6, k),
-        Refusal::BadRoot(k) => show_refusal(7, k),
-        Refusal::NotRising(k) => show_refusal(8, k),
-        Refusal::ShortBuffer(b) => show_refusal(9, b),
-        _ => show_refusal(0, 0),
+        Refusal::BadKind(k) => show_refusal(rt, 1, k),
+        Refusal::CutRecord(k) => show_refusal(rt, 2, k),
+        Refusal::PastLimit(k) => show_refusal(rt, 3, k),
+        Refusal::BadAtom(k) => show_refusal(rt, 4, k),
+        Refusal::BadOperand(k) => show_refusal(rt, 5, k),
+        Refusal::NoOperands(k) => show_refusal(rt, 6, k),
+        Refusal::BadRoot(k) => show_refusal(rt, 7, k),
+        Refusal::NotRising(k) => show_refusal(rt, 8, k),
+        Refusal::ShortBuffer(b) => show_refusal(rt, 9, b),
+        _ => show_refusal(rt, 0, 0),
     }
 }
 
-fn show_sound(s: Summary) {
-    io::write_all(1, b"sound");
-    put(s.counts.stamp as usize);
-    put(s.counts.atoms);
-    put(s.counts.nodes);
-    put(s.counts.operands);
-    put(s.counts.roots);
-    put(s.candidates);
-    put(s.first);
-    end_line();
+fn show_sound(rt: &impl Print, s: Summary) -> io::Result<()> {
+    rt.write_all(b"sound")?;
+    put(rt, s.counts.stamp as usize)?;
+    put(rt, s.counts.atoms)?;
+    put(rt, s.counts.nodes)?;
+    put(rt, s.counts.operands)?;
+    put(rt, s.counts.roots)?;
+    put(rt, s.candidates)?;
+    put(rt, s.first)?;
+    end_line(rt)
 }
 
-fn show(file: &[u8]) {
+fn show(rt: &impl Print, file: &[u8]) -> io::Result<()> {
     match record::judge(file) {
-        Judged::Sound(s) => show_sound(s),
-        Judged::Refused(r) => show_refused(r),
+        Judged::Sound(s) => show_sound(rt, s),
+        Judged::Refused(r) => show_refused(rt, r),
     }
 }
 
-fn show_words(label: &[u8], words: &[u32]) {
-    io::write_all(1, label);
+fn show_words(rt: &impl Print, label: &[u8], words: &[u32]) -> io::Result<()> {
+    rt.write_all(label)?;
     let mut i = 0;
     while i < words.len() {
-        put(words[i] as usize);
+        put(rt, words[i] as usize)?;
         i += 1;
     }
-    end_line();
+    end_line(rt)
 }
 
-fn show_word(word: u64) {
-    io::write_all(1, b"candidate");
-    put(word as usize);
-    end_line();
+fn show_word(rt: &impl Print, word: u64) -> io::Result<()> {
+    rt.write_all(b"candidate")?;
+    put(rt, word as usize)?;
+    end_line(rt)
 }
 
 // The first word of each candidate, found one after the other.
-fn show_candidates(file: &[u8], s: Summary)
+fn show_candidates(rt: &impl Print, file: &[u8], s: Summary) -> io::Result<()>
     requires { (verdict (theory_file file.now) ≡ Judged.Sound s) × (s.counts.atoms ≤ 512) }
 {
     let mut words = [0u64; 8];
@@ -98,102 +100,130 @@ fn show_candidates(file: &[u8], s: Summary)
     let n = s.candidates;
     while i < n {
         at = load::candidate(file, at, s.counts.atoms, &mut words);
-        show_word(words[0]);
+        show_word(rt, words[0])?;
         i += 1;
     }
+    Ok(())
 }
 
-fn show_all_candidates(file: &[u8]) {
+fn show_all_candidates(rt: &impl Print, file: &[u8]) -> io::Result<()> {
     match record::judge(file) {
         Judged::Sound(s) => {
             if s.counts.atoms <= 512 {
-                show_candidates(file, s);
+                show_candidates(rt, file, s)?;
             }
         }
-        Judged::Refused(r) => show_refused(r),
+        Judged::Refused(r) => show_refused(rt, r)?,
     }
+    Ok(())
 }
 
 // Into tables of the given lengths.
-fn show_loaded(file: &[u8], nodes: &mut [u32], operands: &mut [u32], roots: &mut [u32]) {
+fn show_loaded(
+    rt: &impl Print,
+    file: &[u8],
+    nodes: &mut [u32],
+    operands: &mut [u32],
+    roots: &mut [u32],
+) -> io::Result<()> {
     match load::load(file, nodes, operands, roots) {
-        Loaded::Sound(s) => show_sound(s),
-        Loaded::Refused(r) => show_refused(r),
+        Loaded::Sound(s) => show_sound(rt, s)?,
+        Loaded::Refused(r) => show_refused(rt, r)?,
     }
-    show_words(b"nodes", nodes);
-    show_words(b"operands", operands);
-    show_words(b"roots", roots);
+    show_words(rt, b"nodes", nodes)?;
+    show_words(rt, b"operands", operands)?;
+    show_words(rt, b"roots", roots)
 }
 
-fn example() {
+fn example(rt: &impl Print) -> io::Result<()> {
     let file =
         b"TH\x07\x00\x00\x00\x02\x00\x00\x00NA\x00\x00\x00\x00NA\x01\x00\x00\x00NI\x00\x00\x00\x00\x01\x00\x00\x00NFNI\x00\x00\x00\x00\x03\x00\x00\x00ND\x02\x00\x00\x00\x00\x00\x00\x00\x04\x00\x00\x00RT\x05\x00\x00\x00RT\x02\x00\x00\x00CA\x01\x00\x00\x00\x01\x00\x00\x00CA\x02\x00\x00\x00\x00\x00\x00\x00\x01\x00\x00\x00CA\x01\x00\x00\x00\x00\x00\x00\x00CA\x00\x00\x00\x00";
-    show(file);
+    show(rt, file)?;
     let mut nodes = [9u32; 19];
     let mut operands = [9u32; 3];
     let mut roots = [9u32; 3];
-    show_loaded(file, &mut nodes, &mut operands, &mut roots);
-    show_all_candidates(file);
+    show_loaded(rt, file, &mut nodes, &mut operands, &mut roots)?;
+    show_all_candidates(rt, file)?;
     let mut blank = [9u32; 18];
     let mut short = [9u32; 1];
     let mut none = [9u32; 2];
-    show_loaded(file, &mut blank, &mut short, &mut none);
+    show_loaded(rt, file, &mut blank, &mut short, &mut none)
 }
 
-fn bad_mark() {
+fn bad_mark(rt: &impl Print) -> io::Result<()> {
     // nothing at all
-    show(b"");
+    show(rt, b"")?;
     // an unknown mark
-    show(b"NX\x00\x00\x00\x00");
+    show(rt, b"NX\x00\x00\x00\x00")?;
     // a node before TH
-    show(b"NF");
+    show(rt, b"NF")?;
     // TH twice
-    show(b"TH\x07\x00\x00\x00\x02\x00\x00\x00TH\x07\x00\x00\x00\x02\x00\x00\x00");
+    show(
+        rt,
+        b"TH\x07\x00\x00\x00\x02\x00\x00\x00TH\x07\x00\x00\x00\x02\x00\x00\x00",
+    )?;
     // a node after a root
-    show(b"TH\x07\x00\x00\x00\x02\x00\x00\x00NFRT\x00\x00\x00\x00NF");
+    show(
+        rt,
+        b"TH\x07\x00\x00\x00\x02\x00\x00\x00NFRT\x00\x00\x00\x00NF",
+    )?;
     // a root after a candidate
-    show(b"TH\x07\x00\x00\x00\x02\x00\x00\x00NFCA\x00\x00\x00\x00RT\x00\x00\x00\x00");
+    show(
+        rt,
+        b"TH\x07\x00\x00\x00\x02\x00\x00\x00NFCA\x00\x00\x00\x00RT\x00\x00\x00\x00",
+    )
 }
 
-fn bad_cut() {
+fn bad_cut(rt: &impl Print) -> io::Result<()> {
     // TH and 3 bytes
-    show(b"TH\x07\x00\x00");
+    show(rt, b"TH\x07\x00\x00")?;
     // one byte where a record should begin
-    show(b"TH\x07\x00\x00\x00\x02\x00\x00\x00Q");
+    show(rt, b"TH\x07\x00\x00\x00\x02\x00\x00\x00Q")?;
     // a count that times 4 leaves 32 bits
-    show(b"TH\x07\x00\x00\x00\x02\x00\x00\x00NFNC\x01\x00\x00\x40\x00\x00\x00\x00");
+    show(
+        rt,
+        b"TH\x07\x00\x00\x00\x02\x00\x00\x00NFNC\x01\x00\x00\x40\x00\x00\x00\x00",
+    )?;
     // the greatest count
-    show(b"TH\x07\x00\x00\x00\x02\x00\x00\x00CA\xff\xff\xff\xff");
+    show(rt, b"TH\x07\x00\x00\x00\x02\x00\x00\x00CA\xff\xff\xff\xff")?;
     // TH 0 65537
-    show(b"TH\x00\x00\x00\x00\x01\x00\x01\x00");
+    show(rt, b"TH\x00\x00\x00\x00\x01\x00\x01\x00")
 }
 
-fn bad_values() {
+fn bad_values(rt: &impl Print) -> io::Result<()> {
     // NA 2 of 2 atoms
-    show(b"TH\x07\x00\x00\x00\x02\x00\x00\x00NA\x02\x00\x00\x00");
+    show(rt, b"TH\x07\x00\x00\x00\x02\x00\x00\x00NA\x02\x00\x00\x00")?;
     // CA with an atom too high, not rising either
     show(
+        rt,
         b"TH\x07\x00\x00\x00\x02\x00\x00\x00CA\x03\x00\x00\x00\x01\x00\x00\x00\x01\x00\x00\x00\x02\x00\x00\x00",
-    );
+    )?;
     // node 0 NI 0 0
-    show(b"TH\x07\x00\x00\x00\x02\x00\x00\x00NI\x00\x00\x00\x00\x00\x00\x00\x00");
+    show(
+        rt,
+        b"TH\x07\x00\x00\x00\x02\x00\x00\x00NI\x00\x00\x00\x00\x00\x00\x00\x00",
+    )?;
     // NC 0
-    show(b"TH\x07\x00\x00\x00\x02\x00\x00\x00NC\x00\x00\x00\x00");
+    show(rt, b"TH\x07\x00\x00\x00\x02\x00\x00\x00NC\x00\x00\x00\x00")?;
     // RT 6 of 6 nodes
     show(
+        rt,
         b"TH\x07\x00\x00\x00\x02\x00\x00\x00NA\x00\x00\x00\x00NA\x01\x00\x00\x00NI\x00\x00\x00\x00\x01\x00\x00\x00NFNI\x00\x00\x00\x00\x03\x00\x00\x00ND\x02\x00\x00\x00\x00\x00\x00\x00\x04\x00\x00\x00RT\x06\x00\x00\x00",
-    );
+    )?;
     // RT before any node
-    show(b"TH\x07\x00\x00\x00\x02\x00\x00\x00RT\x00\x00\x00\x00");
+    show(rt, b"TH\x07\x00\x00\x00\x02\x00\x00\x00RT\x00\x00\x00\x00")?;
     // CA 2 1 1
-    show(b"TH\x07\x00\x00\x00\x02\x00\x00\x00CA\x02\x00\x00\x00\x01\x00\x00\x00\x01\x00\x00\x00");
+    show(
+        rt,
+        b"TH\x07\x00\x00\x00\x02\x00\x00\x00CA\x02\x00\x00\x00\x01\x00\x00\x00\x01\x00\x00\x00",
+    )?;
     // TH alone is sound
-    show(b"TH\x07\x00\x00\x00\x02\x00\x00\x00");
+    show(rt, b"TH\x07\x00\x00\x00\x02\x00\x00\x00")
 }
 
-fn main() {
-    example();
-    bad_mark();
-    bad_cut();
-    bad_values();
+fn main(rt: HostRuntime) -> io::Result<()> {
+    example(&rt)?;
+    bad_mark(&rt)?;
+    bad_cut(&rt)?;
+    bad_values(&rt)
 }

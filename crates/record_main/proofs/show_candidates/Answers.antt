@@ -1,0 +1,26 @@
+use native.Mathlib.Omega.{arith}
+use native.Mathlib.Nat.{div-add-mod'}
+use native.Mathlib.Numerals.{add-one}
+use mathlib.Core.Path.{refl}
+use Prim.Native.Nat.{◌+◌}
+use Rattle.record.specs.File.{theory_file}
+use Rattle.record.proofs.Judging.{contents_of, sound-is}
+use Rattle.load.specs.Candidate.{place_of}
+use Rattle.load.proofs.Candidates.{sound_candidates}
+use borrow.Author.Rules.{rules}
+use Rattle.record_main.proofs.show_candidates.Goals as goal
+
+pub loop-i-init : goal.loop-i-init
+unfolding place_of
+loop-i-init g c = (search rules, search rules, search rules, refl)
+
+pub candidate-at-requires : goal.candidate-at-requires
+candidate-at-requires g c = (
+  rw c.loop-i.invariant.3 ((sound_candidates c.args.file.now c.args.s (contents_of (theory_file c.args.file.now)) (sound-is (theory_file c.args.file.now) c.args.s c.requires.0)).stands c.loop-i.i (omega (arith, c.loop-i.invariant.1, c.loop-i-test.true))),
+  search rules,
+  omega (arith, c.loop-i.invariant.2, c.requires.1, div-add-mod' (c.args.s.counts.atoms + 63) 64),
+)
+
+pub loop-i-preserved : goal.loop-i-preserved
+unfolding place_of
+loop-i-preserved g c = (search rules, search rules, search rules, rw (add-one, ← c.loop-i.invariant.3) c.candidate-at.ensures.0)
