@@ -1,6 +1,6 @@
 -- What is printed, by what a run answers.
 -- Assumes nothing.
-use Prim.Native.Nat.{ℕ, ◌<◌, ◌≤◌}
+use Prim.Native.Nat.{ℕ, ◌≤◌}
 use native.Mathlib.Omega.{arith}
 use mathlib.Core.Path.{◌≡◌, refl, sym, ap, ◌∙◌}
 use mathlib.Core.Bool.{Bool, true, false, cond}
@@ -15,7 +15,7 @@ use Rattle.text.specs.Lines.{refused_line}
 use Rattle.text.specs.LinesLaws.{length-refused-line}
 use Rattle.run.specs.Text.{text_of}
 use Rattle.run.specs.TextLaws.{text-some}
-use Rattle.run.specs.Run.{Running, running, run_of}
+use Rattle.run.specs.Run.{running, run_of}
 use Rattle.run.specs.RunLaws.{put_whole}
 use Rattle.console.specs.Printed.{printed_of}
 

@@ -1,9 +1,11 @@
-// The lines of the program `tightcheck`: a theory file read from one descriptor, what is printed of it written to another.
+// The lines of the program `tightcheck`: a theory file read from a reader, what is printed of it written to a writer.
 #![tactic(auto)]
 
 ghost use Rattle.std.specs.Prelude.{◌≡◌, ◌≤◌, length, take};
 ghost use Rattle.console.specs.Printed.{held, printed_of};
 
+use std::io;
+use std::io::{Read, Write};
 use theory::Refusal;
 
 #[derive(Clone, Copy)]
@@ -12,21 +14,29 @@ pub enum Input {
     Failed,
 }
 
-// Reads until `file` is full or the input ends; a failed read is told apart from the end.
-fn read_file(input: i32, file: &mut [u8]) -> Input
+// Tells on standard error what failed, and why.
+fn fail(rt: &impl Eprint, what: &str, why: &io::Error) {
+    let _ = eprintln!(rt; "{what}: {why}");
+}
+
+// Reads until `file` is full or the input ends; a failed read is told apart from the end, and on standard error.
+fn read_file<R: Read>(rt: &impl Eprint, input: &mut R, file: &mut [u8]) -> Input
     ensures { held result ≤ length file.new }
 {
     let mut n = 0;
     while n < file.len() {
-        let got = libc::read(input, &mut file[n..]);
-        if got < 0 {
-            return Input::Failed;
+        match input.read(&mut file[n..]) {
+            Ok(more) => {
+                if more == 0 {
+                    return Input::Bytes(n);
+                }
+                n += more;
+            }
+            Err(e) => {
+                fail(rt, "tightcheck: reading the theory file", &e);
+                return Input::Failed;
+            }
         }
-        let more = io::count(got, &file[n..]);
-        if more == 0 {
-            return Input::Bytes(n);
-        }
-        n += more;
     }
     Input::Bytes(n)
 }
@@ -44,21 +54,21 @@ fn printed(file: &[u8], out: &mut [u8]) -> usize
 }
 
 // Prints what the program says of the file; a failed write is told on standard error.
-fn print(file: &[u8], output: i32) {
+fn print<W: Write>(rt: &impl Eprint, file: &[u8], output: &mut W) {
     let mut out = [0u8; 65536];
     let n = printed(file, &mut out);
-    if !io::write_all(output, &out[..n]) {
-        os::fail(b"tightcheck: writing the text");
+    if let Err(e) = output.write_all(&out[..n]) {
+        fail(rt, "tightcheck: writing the text", &e);
     }
 }
 
 // Reads a theory file from `input` and prints what the program says of it to `output`.
 // A failed read prints nothing there, and is told on standard error.
-pub fn answer(input: i32, output: i32) {
+pub fn answer<R: Read, W: Write>(rt: &impl Eprint, input: &mut R, output: &mut W) {
     // one byte more than a file may have is seen and refused
     let mut file = [0u8; 65537];
-    match read_file(input, &mut file) {
-        Input::Bytes(n) => print(&file[..n], output),
-        Input::Failed => os::fail(b"tightcheck: reading the theory file"),
+    match read_file(rt, input, &mut file) {
+        Input::Bytes(n) => print(rt, &file[..n], output),
+        Input::Failed => {}
     }
 }
