@@ -1,24 +1,47 @@
-// Runs the lines of `tightcheck` on the files of data/, and on two descriptors that cannot be read.
+// Runs the lines of `tightcheck` on the files of data/, and on two inputs that cannot be read.
 #![tactic(auto)]
 
-use libc::STDOUT_FILENO;
+use std::fs::File;
+use std::io;
+use std::io::{ErrorKind, Read};
 
-fn show(name: &[u8]) {
-    io::write_all(STDOUT_FILENO, b"== ");
-    io::write_all(STDOUT_FILENO, name);
-    io::write_all(STDOUT_FILENO, b"\n");
-    let input = os::open_read(name);
-    console::answer(input, STDOUT_FILENO);
-    libc::close(input);
+// What a name opens: a file, or nothing that can be read.
+#[derive(Drop)]
+enum Opened {
+    File(File),
+    Failed(ErrorKind),
 }
 
-fn main() {
-    show(b"full");
-    show(b"over");
-    show(b"many");
-    show(b"words");
+impl Read for Opened {
+    fn read(&mut self, buf: &mut [u8]) -> io::Result<usize> {
+        match self {
+            Opened::File(file) => file.read(buf),
+            Opened::Failed(kind) => Err(io::Error::from(*kind)),
+        }
+    }
+}
+
+fn open(rt: &HostRuntime, name: &str) -> Opened {
+    match File::open(rt, name) {
+        Ok(file) => Opened::File(file),
+        Err(e) => Opened::Failed(e.kind()),
+    }
+}
+
+fn show(rt: &HostRuntime, name: &str) -> io::Result<()> {
+    print!(rt; "== {name}\n")?;
+    let mut input = open(rt, name);
+    console::answer(rt, &mut input, &mut io::writer(rt));
+    Ok(())
+}
+
+fn main(rt: HostRuntime) -> io::Result<()> {
+    show(&rt, "full")?;
+    show(&rt, "over")?;
+    show(&rt, "many")?;
+    show(&rt, "words")?;
     // a directory, and a file that is not there
-    show(b".");
-    show(b"missing");
-    io::write_all(STDOUT_FILENO, b"== end\n");
+    show(&rt, ".")?;
+    show(&rt, "missing")?;
+    print!(rt; "== end\n")
 }
