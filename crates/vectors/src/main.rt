@@ -1,32 +1,52 @@
 // Replays stored theory files through a run and prints their texts. `stdin` holds each file behind its length in four bytes, low byte first; `stdout` is what the Rust answers of them.
 #![tactic(auto)]
 
-use libc::{STDIN_FILENO, STDOUT_FILENO};
+ghost use Rattle.std.specs.Prelude.{◌≤◌, IfOk, length};
 
-fn show(file: &[u8]) {
+use std::io;
+use std::io::Read;
+
+fn show(rt: &impl Print, file: &[u8]) -> io::Result<()> {
     let mut out = [0u8; 65536];
     let n = run::run(file, &mut out);
     if n <= 65536 {
-        io::write_all(STDOUT_FILENO, &out[..n]);
+        rt.write_all(&out[..n])?;
     }
+    Ok(())
 }
 
-fn replay(files: &[u8]) {
+fn replay(rt: &impl Print, files: &[u8]) -> io::Result<()> {
     let mut at = 0;
     while files.len() - at >= 4 {
         let n = record::number(files, at);
         let from = at + 4;
         if n > files.len() - from {
-            return;
+            return Ok(());
         }
         let end = from + n;
-        show(&files[from..end]);
+        show(rt, &files[from..end])?;
         at = end;
     }
+    Ok(())
 }
 
-fn main() {
-    let mut files = io::large_buffer();
-    let n = io::read_full(STDIN_FILENO, &mut files);
-    replay(&files[..n]);
+// Reads until `files` is full or the input ends, and answers how many bytes it read.
+fn read_full<R: Read>(input: &mut R, files: &mut [u8]) -> io::Result<usize>
+    ensures { IfOk result (λ n. n ≤ length files.new) }
+{
+    let mut n = 0;
+    while n < files.len() {
+        let more = input.read(&mut files[n..])?;
+        if more == 0 {
+            return Ok(n);
+        }
+        n += more;
+    }
+    Ok(n)
+}
+
+fn main(rt: HostRuntime) -> io::Result<()> {
+    let mut files = [0u8; 65536];
+    let n = read_full(&mut rt.stdin(), &mut files)?;
+    replay(&rt, &files[..n])
 }
