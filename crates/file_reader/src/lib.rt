@@ -1,5 +1,4 @@
 // A reader that keeps the file slice and its offset: thin functions over the by-value functions of crate `record`.
-// The borrow checker covers no function over such a struct, so `open`, `candidate` and `candidate_from` are proved by hand.
 #![tactic(auto)]
 
 ghost use Rattle.std.specs.Prelude.{◌≡◌, ◌+◌, ◌*◌, ◌/◌, ◌<◌, ◌≤◌, length};
@@ -57,7 +56,7 @@ fn candidate<'a, 'w>(r: Reader<'a>, words: &'w mut [u64]) -> Reader<'a>
     }
 }
 
-// The candidate that begins at `at`, read by a reader; answers where the record ends. The parameters are plain, so who calls this needs no proof by hand.
+// The candidate that begins at `at`, read by a reader; answers where the record ends.
 pub fn candidate_from(file: &[u8], at: usize, words: &mut [u64]) -> usize
     requires { Fitting file.now at (length words.old) }
     ensures { (result ≡ record_end file.now at Mark.Candidate) × (words.new ≡ inserted_all words.old (values_of file.now at Mark.Candidate)) }
