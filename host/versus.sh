@@ -5,7 +5,7 @@
 #
 #   versus.sh OLD NEW [SECONDS [WORD]]    two programs `bench`; SECONDS and WORD as for bench
 #
-# A bench of an older commit, with the shapes of this one:
+# A bench of an older commit that has host/staticlib.sh, with the shapes of this one:
 #   git worktree add FOLDER COMMIT && FOLDER/host/staticlib.sh
 #   cp host/src/bin/bench/{main,shapes}.rs FOLDER/host/src/bin/bench/
 #   (cd FOLDER/host && cargo build --offline --release --bin bench)    # FOLDER/host/target/release/bench

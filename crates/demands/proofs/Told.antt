@@ -233,7 +233,7 @@ module _ (file : List ℕ) (f : TheoryFile) (enc : Encodes file f) where
           go (accepted v n) e =
               record {
                 verdict = v;
-                gone_over_lem = n;
+                nodes_gone_over = n;
                 says = let z : 0 + i ≡ i = omega arith in line_at T 0 i cs (replicate 4112 0) h ∙ rw (z, e);
                 decides = of_file (λ a. among a c) v
                     (subst (λ (I : Interpretation). DecidesTheory s.counts T.nodes T.operands T.roots I v) (atoms_are T c below) (check.decides v n e));

@@ -63,12 +63,12 @@ residual_text a n = ap (λ l. residual_word ++ (32 ∷ l)) (append_assoc (decima
 module _ (f : TheoryFile) (sound-f : Sound f) (i : ℕ) (h : i < length f.candidates) (line : List ℕ) (w : LineTells f i (get_or f.candidates i []) line) where
   -- what stands after the verdict
   abbrev end : List ℕ
-  end = spaced (w.gone_over_lem ∷ []) ++ (10 ∷ [])
+  end = spaced (w.nodes_gone_over ∷ []) ++ (10 ∷ [])
 
   parts : line ≡ decimal i ++ (verdict_text w.verdict ++ end)
   unfolding verdict_line
   parts =
-      w.says ∙ append_assoc (decimal i ++ verdict_text w.verdict) (spaced (w.gone_over_lem ∷ [])) (10 ∷ []) ∙ append_assoc (decimal i) (verdict_text w.verdict) end
+      w.says ∙ append_assoc (decimal i ++ verdict_text w.verdict) (spaced (w.nodes_gone_over ∷ [])) (10 ∷ []) ∙ append_assoc (decimal i) (verdict_text w.verdict) end
 
   -- the line goes on with the word of its verdict
   said : (word : List ℕ) → Says i word line → (rest : List ℕ) × (verdict_text w.verdict ++ end ≡ word ++ rest)
@@ -86,20 +86,20 @@ module _ (f : TheoryFile) (sound-f : Sound f) (i : ℕ) (h : i < length f.candid
       value-decimal a (omega (arith, sound-f.limited.atoms))
 
   -- the text of the line's residual
-  named : (a : ℕ) → w.verdict ≡ residual a → verdict_text w.verdict ++ end ≡ residual_of (decimal a) ++ behind w.gone_over_lem
-  named a e = ap (λ v. verdict_text v ++ end) e ∙ residual_text a w.gone_over_lem
+  named : (a : ℕ) → w.verdict ≡ residual a → verdict_text w.verdict ++ end ≡ residual_of (decimal a) ++ behind w.nodes_gone_over
+  named a e = ap (λ v. verdict_text v ++ end) e ∙ residual_text a w.nodes_gone_over
 
   residual_digits : Says i residual_word line → (digits : List ℕ) × Each Digit digits × Says i (residual_of digits) line
   residual_digits z =
       let x = said residual_word z in
       let v = word_residual w.verdict end x.0 x.1 in
-      (decimal v.0, decimal-digits v.0, (behind w.gone_over_lem, parts ∙ ap (λ l. decimal i ++ l) (named v.0 v.1)))
+      (decimal v.0, decimal-digits v.0, (behind w.nodes_gone_over, parts ∙ ap (λ l. decimal i ++ l) (named v.0 v.1)))
 
   residual_said : (digits : List ℕ) → Each Digit digits → Says i (residual_of digits) line → w.verdict ≡ residual (value digits)
   residual_said digits d z =
       let x = said (residual_of digits) z in
       let v = word_residual w.verdict end ((32 ∷ (digits ++ (32 ∷ []))) ++ x.0) x.1 in
-      let same : decimal v.0 ≡ digits = named-digits (decimal v.0) digits (behind w.gone_over_lem) x.0 (decimal-digits v.0) d (sym (named v.0 v.1) ∙ x.1) in
+      let same : decimal v.0 ≡ digits = named-digits (decimal v.0) digits (behind w.nodes_gone_over) x.0 (decimal-digits v.0) d (sym (named v.0 v.1) ∙ x.1) in
       v.1 ∙ ap residual (sym (atom_said v.0 v.1) ∙ ap value same)
 
   pub word_tells : WordTells f i (get_or f.candidates i []) line
@@ -110,9 +110,9 @@ module _ (f : TheoryFile) (sound-f : Sound f) (i : ℕ) (h : i < length f.candid
           λ z. let x = said stable_word z in w.decides.stable_model.0 (word_stable w.verdict end x.0 x.1),
           λ x. says stable_word [] (ap verdict_text (w.decides.stable_model.1 x)),
         );
-        not_model_lem = (
-          λ z. let x = said not_model_word z in w.decides.not_model_lem.0 (word-not_model w.verdict end x.0 x.1),
-          λ x. let k = w.decides.not_model_lem.1 x in says not_model_word (spaced (k.0 ∷ [])) (ap verdict_text k.1),
+        is_not_model = (
+          λ z. let x = said not_model_word z in w.decides.is_not_model.0 (word-not_model w.verdict end x.0 x.1),
+          λ x. let k = w.decides.is_not_model.1 x in says not_model_word (spaced (k.0 ∷ [])) (ap verdict_text k.1),
         );
         residual = (
           λ z. let x = said residual_word z in w.decides.model_not_stable.0 (word_residual w.verdict end x.0 x.1),

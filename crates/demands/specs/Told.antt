@@ -34,8 +34,8 @@ pub record Encodes (file : List ℕ) (f : TheoryFile) : Type 0 where
 -- line number i is that of a verdict, which decides the theory of f for the candidate with the atoms c
 pub record LineTells (f : TheoryFile) (i : ℕ) (c line : List ℕ) : Type 0 where
   pub verdict : Verdict
-  pub gone_over_lem : ℕ
-  pub says : line ≡ verdict_line i verdict gone_over_lem
+  pub nodes_gone_over : ℕ
+  pub says : line ≡ verdict_line i verdict nodes_gone_over
   pub decides : Decides f.roots (theory f) (λ a. among a c) verdict
   -- what a residual shows: its atom is the lowest that can be taken out of the candidate
   pub residual_shows : (a : ℕ) → verdict ≡ residual a → LowestRemovable (λ b. among b c) (theory f) a
@@ -51,7 +51,7 @@ residual_of digits = residual_word ++ (32 ∷ (digits ++ (32 ∷ [])))
 -- the word of the line says what the candidate is
 pub record WordTells (f : TheoryFile) (i : ℕ) (c line : List ℕ) : Type 0 where
   pub stable : Says i stable_word line ↔ Stable (λ a. among a c) (of_list (theory f))
-  pub not_model_lem : Says i not_model_word line ↔ (all (λ a. among a c) (of_list (theory f)) ≡ false)
+  pub is_not_model : Says i not_model_word line ↔ (all (λ a. among a c) (of_list (theory f)) ≡ false)
   pub residual : Says i residual_word line ↔ ((all (λ a. among a c) (of_list (theory f)) ≡ true) × (Stable (λ a. among a c) (of_list (theory f)) → ⊥))
   -- after `residual` stand digits between two spaces, and they say the lowest atom that can be taken out
   pub residual_digits : Says i residual_word line → (digits : List ℕ) × Each Digit digits × Says i (residual_of digits) line

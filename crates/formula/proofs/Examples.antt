@@ -9,21 +9,21 @@ use mathlib.Core.List.{List, [], ◌∷◌, map}
 use lib.Dec.{eqb, ltb}
 use borrow.Author.Tests.{eqb-true, ltb-true}
 use Rattle.base.specs.Tests.{both_left, both_right, either, or_right}
-use Rattle.formula.specs.Formula.{atom, implies, of_list}
+use Rattle.formula.specs.Formula.{Formula, atom, falsum, implies, conj, disj, nil, of_list}
 use Rattle.formula.specs.Satisfaction.{sat, all}
 use Rattle.formula.specs.Reduct.{reduct}
 use Rattle.formula.specs.Stable.{Stable}
 use Rattle.formula.specs.Removable.{without, Removable, LowestRemovable}
-use Rattle.formula.specs.Class.{class}
+use Rattle.formula.specs.Class.{frozen, class}
 use Rattle.formula.specs.Rank.{highest}
-use Rattle.formula.specs.Head.{normal}
+use Rattle.formula.specs.Head.{normal, choice, negated}
 use Rattle.formula.specs.Root.{Root, constraint, fact, rule, root_formula, theory}
 use Rattle.formula.specs.Plan.{Planned}
 use Rattle.formula.specs.Support.{produces, supported}
 use Rattle.formula.specs.Named.{LowestUnproduced}
 use Rattle.formula.specs.Passes.{Within, below, passes}
 use Rattle.formula.proofs.Producers.{unproduced_by, unsupported_by}
-use Rattle.formula.proofs.Cases.{among, chosen, doubled, denied}
+use Rattle.formula.proofs.Cases.{pair, among, chosen, doubled, denied}
 use Rattle.formula.proofs.Fages.{stable_supported}
 use Rattle.formula.proofs.Decide.{passes-supported, passes_stable}
 
@@ -87,15 +87,19 @@ chosen_none_stable = stable_by 2 chosen [] refl (λ a. a) chosen-planned refl
 
 -- ---- atom 0 from its double negation: a Frozen body, so ranks 0 serve
 
-doubled-planned : Planned (λ a. 0) doubled
-unfolding class highest
-doubled-planned = (
+-- of one rule into atom 0
+frozen_planned : (b : Formula) → class b ≡ frozen → Planned (λ a. 0) (rule b (normal 0) ∷ [])
+frozen_planned b e = (
   record {
-    clear = λ e. let z : ◌≡◌ {A = ℕ} 0 1 = cc in omega arith;
-    lower = λ e. let z : ◌≡◌ {A = ℕ} 0 1 = cc in omega arith;
+    clear = λ o. let z : ◌≡◌ {A = ℕ} 0 1 = cc in omega arith;
+    lower = λ p. let z : ◌≡◌ {A = ℕ} 0 1 = cc in omega arith;
   },
   tt,
 )
+
+doubled-planned : Planned (λ a. 0) doubled
+unfolding class
+doubled-planned = frozen_planned (implies (negated 0) falsum) refl
 
 pub doubled_none_stable : Stable (among []) (theory doubled)
 unfolding passes below theory of_list sat supported produces
@@ -137,6 +141,51 @@ empty_0_removable = record { present = refl; removable = refl; before = λ b l i
 false_unstable : Stable (among []) (theory (constraint ∷ [])) → ⊥
 unfolding passes below theory of_list sat supported
 false_unstable = unstable_by_lem 0 (constraint ∷ []) [] refl refl
+
+-- ---- atom 0 from And of nothing, from Or of nothing: Frozen bodies, so ranks 0 serve
+
+abbrev pub always : List Root
+always = rule (conj nil) (normal 0) ∷ []
+
+pub always_0_stable : Stable (among (0 ∷ [])) (theory always)
+unfolding passes below theory of_list sat supported produces class
+always_0_stable = stable_by 1 always (0 ∷ []) refl (λ a. 0) (frozen_planned (conj nil) refl) refl
+
+abbrev pub never : List Root
+never = rule (disj nil) (normal 0) ∷ []
+
+pub never_none_stable : Stable (among []) (theory never)
+unfolding passes below theory of_list sat supported produces class
+never_none_stable = stable_by 1 never [] refl (λ a. 0) (frozen_planned (disj nil) refl) refl
+
+pub never_0_unstable : Stable (among (0 ∷ [])) (theory never) → ⊥
+unfolding passes below theory of_list sat supported produces
+never_0_unstable = unstable_by_lem 1 never (0 ∷ []) refl refl
+
+pub never_0_removable : LowestRemovable (among (0 ∷ [])) (map root_formula never) 0
+unfolding of_list sat reduct without
+never_0_removable = record { present = refl; removable = refl; before = λ b l i e. omega arith }
+
+-- ---- atom 0 or not; atom 1 from And of atom 0 and And of nothing: a Positive body, so 1 is ranked above 0
+
+abbrev pub nested : List Root
+nested = fact (choice 0) ∷ rule (conj (pair (atom 0) (conj nil))) (normal 1) ∷ []
+
+nested_planned : Planned (λ a. a) nested
+unfolding class highest
+nested_planned = (tt, (record { clear = λ e. let z : ◌≡◌ {A = ℕ} 0 1 = cc in omega arith; lower = λ e. omega arith }, tt))
+
+pub nested_1_unstable : Stable (among (1 ∷ [])) (theory nested) → ⊥
+unfolding passes below theory of_list sat supported produces
+nested_1_unstable = unstable_by_lem 2 nested (1 ∷ []) refl refl
+
+pub nested_01_stable : Stable (among (0 ∷ 1 ∷ [])) (theory nested)
+unfolding passes below theory of_list sat supported produces
+nested_01_stable = stable_by 2 nested (0 ∷ 1 ∷ []) refl (λ a. a) nested_planned refl
+
+pub nested_none_stable : Stable (among []) (theory nested)
+unfolding passes below theory of_list sat supported produces
+nested_none_stable = stable_by 2 nested [] refl (λ a. a) nested_planned refl
 
 -- ---- what the plan keeps out: supported models that are not stable
 

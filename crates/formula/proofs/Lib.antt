@@ -1,4 +1,5 @@
 pub mod Cases
+pub mod Empty
 pub mod Laws
 pub mod Fages
 pub mod Producers

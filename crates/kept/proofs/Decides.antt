@@ -114,7 +114,7 @@ module _ (T : Tables) (plan : PlannedTables T) (I : Interpretation) where
     decided_by (not_model k) r s =
         let no = no_model_lem k r in
         record {
-          not_model_lem = (λ z. no, λ z. (k, refl));
+          is_not_model = (λ z. no, λ z. (k, refl));
           names_root = names_root (not_model k) r;
           model_not_stable = (λ z. let q = z.1 in let y : ◌≡◌ {A = ℕ} 0 1 = cc in absurd (omega arith), λ z. absurd (true≢false (sym z.0 ∙ no)));
           names_atom = names_atom (not_model k) r;
@@ -123,7 +123,7 @@ module _ (T : Tables) (plan : PlannedTables T) (I : Interpretation) where
     decided_by (residual a) r s =
         let yes : all I (of_list roots) ≡ true = true_model T plan I (r.names_atom a refl).0 in
         record {
-          not_model_lem = (λ z. let q = z.1 in let y : ◌≡◌ {A = ℕ} 0 1 = cc in absurd (omega arith), λ z. absurd (true≢false (sym yes ∙ z)));
+          is_not_model = (λ z. let q = z.1 in let y : ◌≡◌ {A = ℕ} 0 1 = cc in absurd (omega arith), λ z. absurd (true≢false (sym yes ∙ z)));
           names_root = names_root (residual a) r;
           model_not_stable = (λ z. (yes, λ st. let q : residual a ≡ stable = s.1 st in let y : ◌≡◌ {A = ℕ} 0 1 = cc in omega arith), λ z. (a, refl));
           names_atom = names_atom (residual a) r;
@@ -132,7 +132,7 @@ module _ (T : Tables) (plan : PlannedTables T) (I : Interpretation) where
     decided_by stable r s =
         let yes : all I (of_list roots) ≡ true = true_model T plan I (r.says_stable refl).0 in
         record {
-          not_model_lem = (λ z. let q = z.1 in let y : ◌≡◌ {A = ℕ} 0 1 = cc in absurd (omega arith), λ z. absurd (true≢false (sym yes ∙ z)));
+          is_not_model = (λ z. let q = z.1 in let y : ◌≡◌ {A = ℕ} 0 1 = cc in absurd (omega arith), λ z. absurd (true≢false (sym yes ∙ z)));
           names_root = names_root stable r;
           model_not_stable = (λ z. let q = z.1 in let y : ◌≡◌ {A = ℕ} 0 1 = cc in absurd (omega arith), λ z. absurd (z.1 (s.0 refl)));
           names_atom = names_atom stable r;

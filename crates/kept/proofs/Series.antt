@@ -138,7 +138,7 @@ module _ (T : Tables) (plan : PlannedTables T) where
               residual_shows = λ a n z.
                   let q : verdict T (atoms_of T c) ≡ residual a = cc in
                   residual_removable T plan (atoms_of T c) a (rw q at (decided T plan (atoms_of T c) (atoms_within T c size e)));
-              gone_over_lem = λ v n z. let q : gone o c ≡ n = cc in rw q at (gone_over_lem o c (atoms_within T c size e));
+              gone_over_is = λ v n z. let q : gone o c ≡ n = cc in rw q at (gone_over_lem o c (atoms_within T c size e));
             }
         go (Refused r) e =
             let x = outcome_refused o c r e in
@@ -151,7 +151,7 @@ module _ (T : Tables) (plan : PlannedTables T) where
               as_fresh = λ v n z. absurd (no v n z);
               decides = λ v n z. absurd (no v n z);
               residual_shows = λ a n z. absurd (no (residual a) n z);
-              gone_over_lem = λ v n z. absurd (no v n z);
+              gone_over_is = λ v n z. absurd (no v n z);
             }
 
     -- ---- the series

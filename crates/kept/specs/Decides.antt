@@ -11,8 +11,8 @@ use Rattle.kept.specs.Verdict.{Verdict, not_model, residual, stable}
 
 -- v is the verdict on the candidate I of the roots with these formulas, which stand at these nodes
 pub record Decides (nodes : List ℕ) (roots : List Formula) (I : Interpretation) (v : Verdict) : Type 0 where
-  -- not_model_lem exactly if the candidate falsifies some root, and names the first such root by its node
-  pub not_model_lem : ((k : ℕ) × (v ≡ not_model k)) ↔ (all I (of_list roots) ≡ false)
+  -- not-model exactly if the candidate falsifies some root, and names the first such root by its node
+  pub is_not_model : ((k : ℕ) × (v ≡ not_model k)) ↔ (all I (of_list roots) ≡ false)
   pub names_root : (k : ℕ) → (v ≡ not_model k) ↔ ((r : ℕ) × FirstFalsified I roots r × (get_or nodes r 0 ≡ k))
   -- residual exactly if it satisfies all roots and is not stable, and names the lowest of its atoms that no root produces
   pub model_not_stable : ((a : ℕ) × (v ≡ residual a)) ↔ ((all I (of_list roots) ≡ true) × (Stable I (of_list roots) → ⊥))

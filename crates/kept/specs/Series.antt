@@ -78,7 +78,7 @@ module _ (floor divisor : ℕ) (T : Tables) where
     pub decides : (v : Verdict) (n : ℕ) → answer_to c ws ≡ accepted v n → DecidesTheory T.counts T.nodes T.operands T.roots (atoms_of T c) v
     -- what a residual shows: its atom is the lowest that can be taken out of the candidate
     pub residual_shows : (a n : ℕ) → answer_to c ws ≡ accepted (residual a) n → LowestRemovable (atoms_of T c) (theory_of T.counts T.nodes T.operands T.roots) a
-    pub gone_over_lem : (v : Verdict) (n : ℕ) → answer_to c ws ≡ accepted v n → GoneOver o ws c n
+    pub gone_over_is : (v : Verdict) (n : ℕ) → answer_to c ws ≡ accepted v n → GoneOver o ws c n
 
   -- demand 3: the words after every series, and each check in it
   pub record Demand3 (past : List ℕ) (cs : List Candidate) : Type 0 where

@@ -205,7 +205,7 @@ fn clear(words: &mut [u64], n: usize)
 }
 
 // The candidate that begins at `at`, as a set of atoms, by the reader of crate `file_reader`; answers where the next record begins.
-// Between crates: a caller has the place from a sound file (`sound-candidates`).
+// Between crates: a caller has the place from a sound file (`sound_candidates`).
 pub fn candidate(file: &[u8], at: usize, atoms: usize, words: &mut [u64]) -> usize
     requires { CandidateAt file.now atoms at × (atoms ≤ 65536) × (word_count atoms ≤ length words.old) }
     ensures { (result ≡ record_end file.now at Mark.Candidate) × (words.new ≡ candidate_words atoms (values_of file.now at Mark.Candidate) ++ drop (word_count atoms) words.old) }

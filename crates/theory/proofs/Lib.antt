@@ -1,3 +1,4 @@
 pub mod Steps
 pub mod Admitted
 pub mod Meaning
+pub mod Empty
