@@ -9,7 +9,7 @@
    The libraries write no memory of their own: calls on different threads may run at the same time,
    as long as no slice that one of them writes is lent to another.
    tight_plan, tight_certify and tight_check take about 1 KiB of stack each (1,024 bytes at most,
-   measured), so that the least stack of a thread, 16 KiB, is enough. */
+   measured with the older kit), so that the least stack of a thread, 16 KiB, is enough. */
 #ifndef TIGHT_H
 #define TIGHT_H
 
@@ -150,7 +150,7 @@ uint64_t tight_check(uint32_t stamp, size_t atoms, size_t node_count, size_t ope
 
 /* The text of a theory file, at the front of `out`; answers its length.
    0 if it does not fit, and then `out` is unaltered; no text is empty. It takes less than 200 KiB of
-   stack (180 KiB measured). */
+   stack (180 KiB measured with the older kit). */
 size_t tight_run(const uint8_t *file, size_t file_len, uint8_t *out, size_t out_len);
 
 #ifdef __cplusplus
