@@ -1,5 +1,6 @@
 -- The answer of every check fits its word, on any tables and any words lent.
 -- Assumes nothing.
+use Rattle.std.specs.Prelude.{Ok, Err}
 use Prim.Native.Nat.{ℕ, zero, suc, ◌+◌, ◌*◌, ◌<◌, ◌≤◌}
 use native.Mathlib.Omega.{arith}
 use native.Mathlib.Nat.{min-le_left}
@@ -19,8 +20,6 @@ use Rattle.theory.specs.Limits.{Limited}
 use Rattle.theory.specs.LimitsLaws.{within_limits}
 use Rattle.theory.specs.Refusal.{told}
 use Rattle.theory.specs.Refusals.{or_else_left}
-use Rattle.theory.specs.declared.Admission.{Admission}
-use Rattle.theory.specs.declared.Admission.TheVariants.{Admitted, Refused}
 use Rattle.theory.specs.declared.Refusal.TheVariants.{ShortBuffer, ForeignStamp, StrayBit, BadEntry}
 use Rattle.kept.specs.CountedSet.{Lookup, empty, astray, at, lookup, and_then}
 use Rattle.kept.specs.Worklist.{Worklist, without_first}
@@ -49,6 +48,7 @@ use Rattle.verdict.specs.ToldLaws.{lookup_below}
 use Rattle.answers.specs.Word.{named}
 use Rattle.answers.specs.Fits.{RefusalFits, AnswerFits}
 use Rattle.answers.proofs.Bounded.{Fitting, fitting_admitted, fitting_refused, fitting_then, fitting_test, fitting_passed, fitting_first, fitting_limits}
+use Rattle.theory.specs.Admission.{Admission, admitted}
 
 -- ---- the tests before 17
 
@@ -73,7 +73,7 @@ module _ (T : Tables) (c : Candidate) where
       words = omega (arith, l.atoms)
 
       go : (b : Bool) → ltb (next 64 (listed_words T c) (atom_count T)) (64 * length (listed_words T c)) ≡ b
-          → Fitting (cond b (Refused (StrayBit (next 64 (listed_words T c) (atom_count T)))) Admitted)
+          → Fitting (cond b (Err (StrayBit (next 64 (listed_words T c) (atom_count T)))) admitted)
       go true e =
           let low = ltb-true (next 64 (listed_words T c) (atom_count T)) (64 * length (listed_words T c)) e in
           fitting_refused (StrayBit (next 64 (listed_words T c) (atom_count T))) (record { place = omega (arith, low, most, words); body = omega arith })
@@ -86,7 +86,7 @@ module _ (T : Tables) (c : Candidate) where
       (λ e. fitting_then _ _ (short_fits (buffers T c size) (omega arith, (omega arith, (omega arith, (omega arith, (omega arith, (omega arith, (omega arith, tt))))))))
       (λ f. fitting_then _ _ stamps_fit (λ g. stray_fits (within_limits T.counts e))))
 
-  tests_limited : (size : ℕ) → tests T c size ≡ Admitted → Limited T.counts
+  tests_limited : (size : ℕ) → tests T c size ≡ admitted → Limited T.counts
   unfolding tests
   tests_limited size e = within_limits T.counts (or_else_left _ _ e)
 
@@ -177,7 +177,7 @@ module _ (T : Tables) where
       go empty astray q h = let z : ◌≡◌ {A = ℕ} 0 1 = cc in absurd (omega arith)
       go empty empty q h = let z : stable ≡ v = cc in subst Names z (omega arith)
 
-  fresh_names : (J : Interpretation) → tables_admission T J ≡ Admitted → Names (verdict T J)
+  fresh_names : (J : Interpretation) → tables_admission T J ≡ admitted → Names (verdict T J)
   fresh_names J ok = told_names (fresh T J) (verdict T J) (verdict-fresh T J (root_within T J ok))
 
   -- ---- a result
@@ -219,8 +219,8 @@ module _ (T : Tables) where
 
     fresh_fits : (J : Interpretation) (a : Admission) → tables_admission T J ≡ a → ResultFits (fresh_result T J a)
     unfolding fresh_result
-    fresh_fits J Admitted h = answer_fits (verdict T J) (node_count T) (fresh_names J h) (omega arith)
-    fresh_fits J (Refused r) h = tables_fit J r h
+    fresh_fits J (Ok u) h = answer_fits (verdict T J) (node_count T) (fresh_names J h) (omega arith)
+    fresh_fits J (Err r) h = tables_fit J r h
 
     result_fits : (floor divisor : ℕ) (J : Interpretation) (e : Evaluation) → Fits T e → ResultFits (result floor divisor T J e)
     unfolding result
@@ -241,8 +241,8 @@ unfolding outcome outcome_at
 outcome_fits floor divisor T c ws = go (tests T c (length ws)) refl
   where
     go : (a : Admission) → tests T c (length ws) ≡ a → AnswerFits (outcome_at floor divisor T c ws a).answer
-    go (Refused r) e = tests_fit T c (length ws) r e
-    go Admitted e =
+    go (Err r) e = tests_fit T c (length ws) r e
+    go (Ok u) e =
         let lent = lent_long T c (length ws) e in
         concluded_fits T ws (result floor divisor T (atoms_of T c) (of_words T ws))
         (result_fits T (tests_limited T c (length ws) e) floor divisor (atoms_of T c) (of_words T ws) (fits_of T ws (omega (arith, room T, lent.1.1.1.1.1.1.0))))

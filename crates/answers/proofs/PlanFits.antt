@@ -1,5 +1,6 @@
 -- The answer of every planning call fits its word, whatever is lent.
 -- Assumes nothing.
+use Rattle.std.specs.Prelude.{Option, Some, None, Result, Ok, Err}
 use Prim.Native.Nat.{ℕ, zero, suc, ◌+◌, ◌*◌, ◌<◌, ◌≤◌}
 use native.Mathlib.Omega.{arith}
 use mathlib.Core.Path.{◌≡◌, refl}
@@ -11,7 +12,7 @@ use lib.Seq.{length-take-le}
 use borrow.Author.Tests.{ltb-true}
 use Rattle.graph.specs.Derive.{Derived, ranks, cycle, table, lowest_left, derive}
 use Rattle.graph.specs.Depth.{depth}
-use Rattle.theory.specs.Admission.{all_below, span_start, group_admission, node_admission, root_admission, nodes_admission, roots_admission, admission, or_else}
+use Rattle.theory.specs.Admission.{all_below, span_start, group_admission, node_admission, root_admission, nodes_admission, roots_admission, admission, or_else, Admission, admitted}
 use Rattle.theory.specs.Limits.{Limited, limits_of}
 use Rattle.theory.specs.LimitsLaws.{within_limits}
 use Rattle.theory.specs.Node.{node_at, span}
@@ -19,8 +20,6 @@ use Rattle.theory.specs.NodeRank.{node_highests}
 use Rattle.theory.specs.Refusal.{told}
 use Rattle.theory.specs.Refusals.{or_else_left, or-else-right}
 use Rattle.theory.specs.WellFormed.{NodeTables, WellFormed}
-use Rattle.theory.specs.declared.Admission.{Admission}
-use Rattle.theory.specs.declared.Admission.TheVariants as admission
 use Rattle.theory.specs.declared.Counts.{Counts}
 use Rattle.theory.specs.declared.Node.{Node}
 use Rattle.theory.specs.declared.Node.TheVariants.{Atom, False, Implies, And, Or, Unknown}
@@ -30,8 +29,6 @@ use Rattle.compile.specs.Producer.{produced}
 use Rattle.compile.specs.Producers.{roots_supported, supported_at, producers_before}
 use Rattle.compile.specs.ProducersLaws.{few-producers}
 use Rattle.theory.specs.Formed.{left_below}
-use Rattle.compile.specs.declared.Produced.{Produced}
-use Rattle.compile.specs.declared.Produced.TheVariants as produced
 use Rattle.compile.proofs.RootFormula.{producer_bounded}
 use Rattle.compile.proofs.Unsupported.{root_only}
 use Rattle.ranks.specs.Dependency.{positive, dependencies}
@@ -42,6 +39,8 @@ use Rattle.plan.specs.Outcome.{producers_of, planned, lengths, plan_outcome, cer
 use Rattle.plan.specs.declared.Lengths.{Lengths}
 use Rattle.answers.specs.Fits.{RefusalFits, PlanningFits}
 use Rattle.answers.proofs.Bounded.{Fitting, fitting_admitted, fitting_refused, fitting_then, fitting_test, fitting_passed, fitting_first, fitting_limits}
+use Rattle.theory.specs.declared.Refusal.{Refusal}
+use Rattle.compile.specs.declared.Producer.{Producer}
 
 buffer_fits : (b : ℕ) → b < 4294967296 → RefusalFits (ShortBuffer b)
 unfolding told
@@ -56,7 +55,7 @@ short_fits t l =
     (fitting_test (ltb l.producers (4 * t.roots)) (ShortBuffer 4) _ (buffer_fits 4 (omega arith))
     (fitting_test (ltb l.ranks t.atoms) (ShortBuffer 5) _ (buffer_fits 5 (omega arith))
     (fitting_test (ltb l.readers (readers_length t)) (ShortBuffer 6) _ (buffer_fits 6 (omega arith))
-    (fitting_test (ltb l.work (work_length t)) (ShortBuffer 8) admission.Admitted (buffer_fits 8 (omega arith)) fitting_admitted))))))
+    (fitting_test (ltb l.work (work_length t)) (ShortBuffer 8) admitted (buffer_fits 8 (omega arith)) fitting_admitted))))))
 
 -- ---- 1, 6, 4, 5 name a node, 7 a root position
 
@@ -108,22 +107,22 @@ module _ (t : Counts) (nodes operands roots : List ℕ) where
     unfolding body_order told
     body_fits high ranked head l zero = fitting_admitted
     body_fits high ranked head l (suc b) =
-        fitting_test (positive classes_of b && not (ltb (get_or high b 0) (get_or ranked head 0))) (RankOrder head) admission.Admitted (record { place = omega (arith, l, m.atoms); body = omega arith }) fitting_admitted
+        fitting_test (positive classes_of b && not (ltb (get_or high b 0) (get_or ranked head 0))) (RankOrder head) admitted (record { place = omega (arith, l, m.atoms); body = omega arith }) fitting_admitted
 
     order_fits : (high ranked : List ℕ) (i : ℕ) → i < t.roots → Fitting (order_at nodes operands classes_of roots high ranked i)
     unfolding order_at produced_order
     order_fits high ranked i l = go (produced nodes operands classes_of (get_or roots i 0)) refl
       where
-        go : (p : Produced) → produced nodes operands classes_of (get_or roots i 0) ≡ p → Fitting (produced_order classes_of high ranked p)
-        go produced.Nothing e = fitting_admitted
-        go (produced.Made p) e = body_fits high ranked p.head (producer_bounded t nodes operands classes_of tables (get_or roots i 0) (well.root i l) p e).head_in p.body
-        go (produced.Refused r) e = fitting_admitted
+        go : (p : Result (Option Producer) Refusal) → produced nodes operands classes_of (get_or roots i 0) ≡ p → Fitting (produced_order classes_of high ranked p)
+        go (Ok None) e = fitting_admitted
+        go (Ok (Some p)) e = body_fits high ranked p.head (producer_bounded t nodes operands classes_of tables (get_or roots i 0) (well.root i l) p e).head_in p.body
+        go (Err r) e = fitting_admitted
 
     ranks_fit : (ranked : List ℕ) → Fitting (rank_check t nodes operands classes_of roots ranked)
     unfolding rank_check rank_order order_by told
     ranks_fit ranked = go (eqb (length ranked) t.atoms && all_below t.atoms ranked)
       where
-        go : (b : Bool) → Fitting (cond b (rank_order t nodes operands classes_of roots ranked) (admission.Refused RankShape))
+        go : (b : Bool) → Fitting (cond b (rank_order t nodes operands classes_of roots ranked) (Err RankShape))
         go true = fitting_first (order_at nodes operands classes_of roots (node_highests (λ a. get_or ranked a 0) nodes operands t.nodes) ranked) 0 t.roots (λ i l. order_fits _ ranked i (omega arith))
         go false = fitting_refused RankShape (record { place = omega arith; body = omega arith })
 
@@ -159,13 +158,13 @@ module _ (t : Counts) (nodes operands roots : List ℕ) where
     abbrev lengths_of : Lengths
     lengths_of = lengths t nodes operands roots ps rs us ws
 
-    known : limits_of t ≡ admission.Admitted → short_buffer t lengths_of ≡ admission.Admitted → admission t nodes operands roots ≡ admission.Admitted → Admits
+    known : limits_of t ≡ admitted → short_buffer t lengths_of ≡ admitted → admission t nodes operands roots ≡ admitted → Admits
     known e f g =
         let well = admitted_formed t nodes operands roots g in
         let long = long_enough t lengths_of f in
         record { limited = within_limits t e; roots_long = long.roots_long; well = well; tables = record { nodes_long = long.nodes_long; operands_long = long.operands_long; formed = well.node } }
 
-    judged_known : judged t nodes operands roots lengths_of ≡ admission.Admitted → Admits
+    judged_known : judged t nodes operands roots lengths_of ≡ admitted → Admits
     unfolding judged
     judged_known j =
         let rest = or-else-right (limits_of t) _ j in
@@ -186,12 +185,12 @@ module _ (t : Counts) (nodes operands roots : List ℕ) where
     planned_fits : (j rest : Admission) (ranked : List ℕ) → judged t nodes operands roots lengths_of ≡ j → (Admits → Fitting rest)
         → PlanningFits (planned t nodes operands roots ps rs us ws (or_else j rest) ranked).answer
     unfolding planned
-    planned_fits (admission.Refused r) rest ranked e h = judged_fits r e
-    planned_fits admission.Admitted rest ranked e h = go rest (h (judged_known e))
+    planned_fits (Err r) rest ranked e h = judged_fits r e
+    planned_fits (Ok u) rest ranked e h = go rest (h (judged_known e))
       where
         go : (a : Admission) → Fitting a → PlanningFits (planned t nodes operands roots ps rs us ws a ranked).answer
-        go admission.Admitted f = few (judged_known e)
-        go (admission.Refused r) f = f r refl
+        go (Ok u) f = few (judged_known e)
+        go (Err r) f = f r refl
 
     -- whatever is lent, each number of the answer fits its field
     pub plan_fits : PlanningFits (plan_outcome t nodes operands roots ps rs us ws).answer

@@ -1,11 +1,9 @@
 -- Words made case by case, and why each number fits.
 -- Assumes nothing.
-use Rattle.std.specs.Prelude.{ℕ, zero, suc, ◌+◌, ◌*◌, ◌<◌, ◌≤◌, ◌≡◌, refl, List, get_or}
+use Rattle.std.specs.Prelude.{ℕ, zero, suc, ◌+◌, ◌*◌, ◌<◌, ◌≤◌, ◌≡◌, refl, List, get_or, Result, Ok, Err}
 use Rattle.std.proofs.Common.{arith, ap, sym, ◌∙◌}
 use Rattle.theory.specs.Refusal.{told, number_of}
 use Rattle.theory.specs.declared.Refusal.{Refusal}
-use Rattle.plan.specs.declared.Planning.{Planning}
-use Rattle.plan.specs.declared.Planning.TheVariants.{Planned, Refused}
 use Rattle.kept.specs.Outcome.{accepted}
 use Rattle.verdict.specs.Told.{verdict_as}
 use Rattle.verdict.specs.declared.Verdict.{Verdict}
@@ -79,18 +77,18 @@ module _ (r : Refusal) (t : Told) (e : told_of t ≡ told r) where
 
 -- ---- a planning call
 
-module _ (a : Planning) where
-  pub planned_fits : (p : ℕ) → a ≡ Planned p → PlanningFits a → p < 4294967296
+module _ (a : Result ℕ Refusal) where
+  pub planned_fits : (p : ℕ) → a ≡ Ok p → PlanningFits a → p < 4294967296
   planned_fits p e f = rw e at f
 
-  pub planned-packed : (p : ℕ) → a ≡ Planned p → word 0 p 0 ≡ planning_word a
+  pub planned-packed : (p : ℕ) → a ≡ Ok p → word 0 p 0 ≡ planning_word a
   unfolding planning_word
   planned-packed p e = rw e
 
-  pub refused_fits : (r : Refusal) → a ≡ Refused r → PlanningFits a → RefusalFits r
+  pub refused_fits : (r : Refusal) → a ≡ Err r → PlanningFits a → RefusalFits r
   refused_fits r e f = rw e at f
 
-  pub refused_packed : (r : Refusal) → a ≡ Refused r → refusal_word r ≡ planning_word a
+  pub refused_packed : (r : Refusal) → a ≡ Err r → refusal_word r ≡ planning_word a
   unfolding planning_word
   refused_packed r e = rw e
 

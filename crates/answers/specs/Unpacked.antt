@@ -1,10 +1,8 @@
 -- The answer that a word tells.
 -- Assumes nothing.
-use Rattle.std.specs.Prelude.{ℕ, ◌-◌, ◌/◌, ◌%◌, cond, [], ◌∷◌, eqb, get_or}
+use Rattle.std.specs.Prelude.{ℕ, ◌-◌, ◌/◌, ◌%◌, cond, [], ◌∷◌, eqb, get_or, Result, Ok, Err}
 use Rattle.theory.specs.declared.Refusal.{Refusal}
 use Rattle.theory.specs.declared.Refusal.TheVariants.{BadKind, CutRecord, PastLimit, BadAtom, BadOperand, NoOperands, BadRoot, NotRising, ShortBuffer, UnsupportedRoot, UnsupportedBody, PositiveCycle, RankShape, RankOrder, ForeignStamp, StrayBit, BadEntry}
-use Rattle.plan.specs.declared.Planning.{Planning}
-use Rattle.plan.specs.declared.Planning.TheVariants as planning
 use Rattle.kept.specs.Verdict.{Verdict, not_model, residual, stable}
 use Rattle.kept.specs.Outcome.{Answer, accepted, refused}
 use Rattle.answers.specs.Word.{number_in, place_in, body_in}
@@ -17,8 +15,8 @@ refusal_by number place body =
 abbrev pub refusal_in : ℕ → Refusal
 refusal_in w = refusal_by (number_in w) (place_in w) (body_in w)
 
-unfoldable pub planning_in : ℕ → Planning
-planning_in w = cond (eqb (number_in w) 0) (planning.Planned (place_in w)) (planning.Refused (refusal_in w))
+unfoldable pub planning_in : ℕ → Result ℕ Refusal
+planning_in w = cond (eqb (number_in w) 0) (Ok (place_in w)) (Err (refusal_in w))
 
 abbrev pub verdict_by : ℕ → ℕ → Verdict
 verdict_by number name = get_or (stable ∷ not_model name ∷ residual name ∷ []) number stable

@@ -1,10 +1,8 @@
 -- The answer of a public call as one u64: in bits 0 to 7 the refusal's number, or 0; in bits 8 to 39 and 40 to 63 what goes with it.
 -- Assumes nothing.
-use Rattle.std.specs.Prelude.{ℕ, ◌+◌, ◌*◌, ◌/◌, ◌%◌, get_or}
+use Rattle.std.specs.Prelude.{ℕ, ◌+◌, ◌*◌, ◌/◌, ◌%◌, get_or, Result, Ok, Err}
 use Rattle.theory.specs.Refusal.{told, number_of}
 use Rattle.theory.specs.declared.Refusal.{Refusal}
-use Rattle.plan.specs.declared.Planning.{Planning}
-use Rattle.plan.specs.declared.Planning.TheVariants as planning
 use Rattle.kept.specs.Verdict.{Verdict, not_model, residual, stable}
 use Rattle.kept.specs.Outcome.{Answer, accepted, refused}
 
@@ -35,9 +33,9 @@ refusal_word r = word (number_of r) (place_of r) (body_of r)
 
 -- ---- a planning call: 0 and the number of producers
 
-unfoldable pub planning_word : Planning → ℕ
-planning_word (planning.Planned producers) = word 0 producers 0
-planning_word (planning.Refused r) = refusal_word r
+unfoldable pub planning_word : Result ℕ Refusal → ℕ
+planning_word (Ok producers) = word 0 producers 0
+planning_word (Err r) = refusal_word r
 
 -- ---- a check: 0; in bits 8 to 15 the verdict, in 16 to 39 the root's node or the atom that it names, or 0; in 40 to 63 the nodes visited
 

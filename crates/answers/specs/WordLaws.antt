@@ -1,13 +1,11 @@
 -- Unpacking a word gives its fields back, so no two answers share one.
 -- Assumes nothing.
-use Rattle.std.specs.Prelude.{ℕ, ◌+◌, ◌*◌, ◌/◌, ◌<◌, ◌≡◌, refl, false, eqb}
+use Rattle.std.specs.Prelude.{ℕ, ◌+◌, ◌*◌, ◌/◌, ◌<◌, ◌≡◌, refl, false, eqb, Result, Ok, Err}
 use Rattle.std.proofs.Common.{arith, ap, sym, ◌∙◌, ne_eqb}
 use Rattle.std.proofs.Math.Arith.{digits_div, digits_mod}
 use Rattle.theory.specs.Refusal.{told, number_of}
 use Rattle.theory.specs.declared.Refusal.{Refusal}
 use Rattle.theory.specs.declared.Refusal.TheVariants.{BadKind, CutRecord, PastLimit, BadAtom, BadOperand, NoOperands, BadRoot, NotRising, ShortBuffer, UnsupportedRoot, UnsupportedBody, PositiveCycle, RankShape, RankOrder, ForeignStamp, StrayBit, BadEntry}
-use Rattle.plan.specs.declared.Planning.{Planning}
-use Rattle.plan.specs.declared.Planning.TheVariants as planning
 use Rattle.kept.specs.Verdict.{Verdict, not_model, residual, stable}
 use Rattle.kept.specs.Outcome.{Answer, accepted, refused}
 use Rattle.answers.specs.Word.{word, number_in, place_in, body_in, place_of, body_of, refusal_word, planning_word, verdict_number, named, check_word}
@@ -95,10 +93,10 @@ module _ (r : Refusal) (f : RefusalFits r) where
 
 -- ---- the answers
 
-pub planning_back : (a : Planning) → PlanningFits a → planning_in (planning_word a) ≡ a
+pub planning_back : (a : Result ℕ Refusal) → PlanningFits a → planning_in (planning_word a) ≡ a
 unfolding planning_in planning_word
-planning_back (planning.Planned p) l = rw (number_back 0 p 0 (omega arith), place_back 0 p 0 (omega arith) l)
-planning_back (planning.Refused r) f = rw (refusal_told r f, refusal_back r f)
+planning_back (Ok p) l = rw (number_back 0 p 0 (omega arith), place_back 0 p 0 (omega arith) l)
+planning_back (Err r) f = rw (refusal_told r f, refusal_back r f)
 
 module _ (v : Verdict) (n : ℕ) (l : named v < 16777216) where
   verdict_fits : verdict_number v < 256
@@ -138,7 +136,7 @@ answer_back (accepted v n) f = verdict_back v n f.0
 answer_back (refused r) f = refused_back r f
 
 -- no two answers share a word
-pub planning-only : (a b : Planning) → PlanningFits a → PlanningFits b → planning_word a ≡ planning_word b → a ≡ b
+pub planning-only : (a b : Result ℕ Refusal) → PlanningFits a → PlanningFits b → planning_word a ≡ planning_word b → a ≡ b
 planning-only a b f g e = sym (planning_back a f) ∙ ap planning_in e ∙ planning_back b g
 
 pub answer_only : (a b : Answer) → AnswerFits a → AnswerFits b → check_word a ≡ check_word b → a ≡ b

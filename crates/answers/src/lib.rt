@@ -35,13 +35,13 @@ fn pack_refusal(r: Refusal) -> u64
 }
 
 // Of a planning call: the number of producers, or the refusal.
-pub fn pack_planning(planning: Planning) -> u64
+pub fn pack_planning(planning: Result<usize, Refusal>) -> u64
     requires { PlanningFits planning }
     ensures { result ≡ planning_word planning }
 {
     match planning {
-        Planning::Planned(p) => pack(0, p, 0),
-        Planning::Refused(r) => pack_refusal(r),
+        Ok(p) => pack(0, p, 0),
+        Err(r) => pack_refusal(r),
     }
 }
 

@@ -1,5 +1,6 @@
 pub mod Tests
 pub mod Places
+pub mod Raised
 pub mod Rising
 pub mod Each
 pub mod Front

@@ -47,14 +47,14 @@ fn show_refused(rt: &impl Print, r: Refusal) -> io::Result<()> {
     put_part(rt, &out, n)
 }
 
-fn show_planning(rt: &impl Print, planning: Planning) -> io::Result<()> {
+fn show_planning(rt: &impl Print, planning: Result<usize, Refusal>) -> io::Result<()> {
     match planning {
-        Planning::Planned(p) => {
+        Ok(p) => {
             put(rt, b"planned ")?;
             put_number(rt, p)?;
             put(rt, b"\n")
         }
-        Planning::Refused(r) => show_refused(rt, r),
+        Err(r) => show_refused(rt, r),
     }
 }
 

@@ -1,5 +1,6 @@
 -- A root that is refused is refused 10 or 11.
 -- Assumes nothing.
+use Rattle.std.specs.Prelude.{Some, None, Result, Ok, Err}
 use Prim.Native.Nat.{ℕ, ◌+◌}
 use mathlib.Core.Path.{◌≡◌, refl}
 use mathlib.Core.Bool.{Bool, true, false, cond}
@@ -19,11 +20,10 @@ use Rattle.theory.specs.declared.Refusal.TheVariants.{UnsupportedRoot, Unsupport
 use Rattle.compile.specs.Head.{head_of}
 use Rattle.compile.specs.Producer.{producer, fact, rule, produced_by, produced}
 use Rattle.compile.specs.Producers.{refused_by, supported_at, roots_supported}
-use Rattle.compile.specs.declared.Produced.{Produced}
-use Rattle.compile.specs.declared.Produced.TheVariants.{Nothing, Made, Refused}
+use Rattle.compile.specs.declared.Producer.{Producer}
 
 module _ (P : Refusal → Type 0) where
-  abbrev OnlyBy : Produced → Type 0
+  abbrev OnlyBy : Result (Option Producer) Refusal → Type 0
   OnlyBy p = Only P (refused_by p)
 
   fact-only : (root : ℕ) → P (UnsupportedRoot root) → (o : Option Head) → OnlyBy (fact root o)
@@ -36,7 +36,7 @@ module _ (P : Refusal → Type 0) where
   rule-only classes root body ten eleven none = only_refused P (UnsupportedRoot root) ten
   rule-only classes root body ten eleven (some h) = go (eqb (get_or classes body 0) 2)
     where
-      go : (b : Bool) → OnlyBy (cond b (Refused (UnsupportedBody root body)) (Made (producer root (body + 1) h)))
+      go : (b : Bool) → OnlyBy (cond b (Err (UnsupportedBody root body)) (Ok (Some (producer root (body + 1) h))))
       go true = only_refused P (UnsupportedBody root body) eleven
       go false = only_admitted P
 
@@ -48,7 +48,7 @@ module _ (P : Refusal → Type 0) where
     node_only root ten False eleven = only_admitted P
     node_only root ten (Implies l r) eleven = go (is_false (node_at nodes r))
       where
-        go : (b : Bool) → OnlyBy (cond b Nothing (rule classes root l (head_of nodes operands (node_at nodes r))))
+        go : (b : Bool) → OnlyBy (cond b (Ok None) (rule classes root l (head_of nodes operands (node_at nodes r))))
         go true = only_admitted P
         go false = rule-only classes root l ten (eleven l r refl) (head_of nodes operands (node_at nodes r))
     node_only root ten (And s c) eleven = fact-only root ten (head_of nodes operands (And s c))

@@ -1,10 +1,9 @@
 -- A head that a node of well-formed tables makes: its atom is one of the theory's, and its formula is the node's.
 -- Assumes nothing.
-use Rattle.std.specs.Prelude.{ℕ, ◌+◌, ◌<◌, ◌≤◌, ◌≡◌, Bool, true, false, cond, List, [], ◌∷◌, eqb, length}
+use Rattle.std.specs.Prelude.{ℕ, ◌+◌, ◌<◌, ◌≤◌, ◌≡◌, Bool, true, false, cond, List, [], ◌∷◌, eqb, length, Option, Some, None}
 use Rattle.std.proofs.Common.{arith, ◌∙◌, eqb-true}
 use Rattle.std.proofs.Math.Path.{refl, sym, ap}
 use Rattle.std.proofs.lemmas.Bool.{false≢true}
-use Rattle.std.proofs.Math.Option.{Option, some, none}
 use Rattle.std.proofs.Math.ListN.{get_or}
 use Rattle.base.specs.Tests.{both_left, both_right}
 use Rattle.base.specs.Each.{Each}
@@ -22,7 +21,7 @@ use Rattle.theory.specs.declared.Node.{Node}
 use Rattle.theory.specs.declared.Node.TheVariants.{Atom, False, Implies, And, Or, Unknown}
 use Rattle.compile.specs.Head.{as_atom, denies, chosen, either_order, head_of}
 
-as_atom_lem : (node : Node) (a : ℕ) → as_atom node ≡ some a → node ≡ Atom a
+as_atom_lem : (node : Node) (a : ℕ) → as_atom node ≡ Some a → node ≡ Atom a
 as_atom_lem (Atom b) a e = cc
 as_atom_lem False a e = cc
 as_atom_lem (Implies l r) a e = cc
@@ -58,11 +57,11 @@ pub record Chosen (nodes : List ℕ) (p q a : ℕ) : Type 0 where
   pub positive : node_at nodes p ≡ Atom a
   pub negative : Denial nodes p (node_at nodes q)
 
-chosen_is : (nodes : List ℕ) (p q a : ℕ) → chosen nodes p q ≡ some a → Chosen nodes p q a
+chosen_is : (nodes : List ℕ) (p q a : ℕ) → chosen nodes p q ≡ Some a → Chosen nodes p q a
 unfolding chosen
 chosen_is nodes p q a e = go (denies nodes p (node_at nodes q)) refl e
   where
-    go : (b : Bool) → denies nodes p (node_at nodes q) ≡ b → cond b (as_atom (node_at nodes p)) none ≡ some a → Chosen nodes p q a
+    go : (b : Bool) → denies nodes p (node_at nodes q) ≡ b → cond b (as_atom (node_at nodes p)) None ≡ Some a → Chosen nodes p q a
     go true d t = record { positive = as_atom_lem (node_at nodes p) a t; negative = denial nodes p (node_at nodes q) d }
     go false d t = let z : ◌≡◌ {A = ℕ} 0 1 = cc in absurd (omega arith)
 
@@ -71,18 +70,18 @@ pub data Ordered (nodes : List ℕ) (p q : ℕ) : Head → Type 0 where
   straight : {a : ℕ} → Chosen nodes p q a → Ordered nodes p q (choice a)
   reversed : {a : ℕ} → Chosen nodes q p a → Ordered nodes p q (flipped a)
 
-ordered : (nodes : List ℕ) (p q : ℕ) (h : Head) (o m : Option ℕ) → chosen nodes p q ≡ o → chosen nodes q p ≡ m → either_order o m ≡ some h → Ordered nodes p q h
+ordered : (nodes : List ℕ) (p q : ℕ) (h : Head) (o m : Option ℕ) → chosen nodes p q ≡ o → chosen nodes q p ≡ m → either_order o m ≡ Some h → Ordered nodes p q h
 unfolding either_order
-ordered nodes p q h (some a) m eo em e = let s : choice a ≡ h = cc in rw s at (straight (chosen_is nodes p q a eo))
-ordered nodes p q h none (some a) eo em e = let s : flipped a ≡ h = cc in rw s at (reversed (chosen_is nodes q p a em))
-ordered nodes p q h none none eo em e = let z : ◌≡◌ {A = ℕ} 0 1 = cc in absurd (omega arith)
+ordered nodes p q h (Some a) m eo em e = let s : choice a ≡ h = cc in rw s at (straight (chosen_is nodes p q a eo))
+ordered nodes p q h None (Some a) eo em e = let s : flipped a ≡ h = cc in rw s at (reversed (chosen_is nodes q p a em))
+ordered nodes p q h None None eo em e = let z : ◌≡◌ {A = ℕ} 0 1 = cc in absurd (omega arith)
 
 -- what a node with a head is
 pub data Heads (nodes operands : List ℕ) : Node → Head → Type 0 where
   by_atom : {a : ℕ} → Heads nodes operands (Atom a) (normal a)
   by_choice : {s : ℕ} {h : Head} → Ordered nodes (get_or operands s 0) (get_or operands (s + 1) 0) h → Heads nodes operands (Or s 2) h
 
-pub heads : (nodes operands : List ℕ) (node : Node) (h : Head) → head_of nodes operands node ≡ some h → Heads nodes operands node h
+pub heads : (nodes operands : List ℕ) (node : Node) (h : Head) → head_of nodes operands node ≡ Some h → Heads nodes operands node h
 unfolding head_of
 heads nodes operands (Atom a) h e = let s : h ≡ normal a = cc in rw s by_atom
 heads nodes operands False h e = let z : ◌≡◌ {A = ℕ} 0 1 = cc in absurd (omega arith)
@@ -96,7 +95,7 @@ heads nodes operands (Or s c) h e = go (eqb c 2) refl e
     q : ℕ
     q = get_or operands (s + 1) 0
 
-    go : (b : Bool) → eqb c 2 ≡ b → cond b (either_order (chosen nodes p q) (chosen nodes q p)) none ≡ some h → Heads nodes operands (Or s c) h
+    go : (b : Bool) → eqb c 2 ≡ b → cond b (either_order (chosen nodes p q) (chosen nodes q p)) None ≡ Some h → Heads nodes operands (Or s c) h
     go true i t = rw (eqb-true c 2 i) (by_choice (ordered nodes p q h _ _ refl refl t))
     go false i t = let z : ◌≡◌ {A = ℕ} 0 1 = cc in absurd (omega arith)
 heads nodes operands Unknown h e = let z : ◌≡◌ {A = ℕ} 0 1 = cc in absurd (omega arith)
@@ -116,7 +115,7 @@ module _ (t : Counts) (nodes operands : List ℕ) (tables : NodeTables t nodes o
       ordered_below (get_or operands s 0) (get_or operands (s + 1) 0) h (i.lower s (omega arith) (omega arith)) (i.lower (s + 1) (omega arith) (omega arith)) o
 
   -- a head's atom is below `atoms`
-  pub head_below : (k : ℕ) → k < t.nodes → (h : Head) → head_of nodes operands (node_at nodes k) ≡ some h → head_atom h < t.atoms
+  pub head_below : (k : ℕ) → k < t.nodes → (h : Head) → head_of nodes operands (node_at nodes k) ≡ Some h → head_atom h < t.atoms
   head_below k l h e = heads_below k l (node_at nodes k) refl h (heads nodes operands (node_at nodes k) h e)
 
 module _ (t : Counts) (nodes operands roots : List ℕ) (well : WellFormed t nodes operands roots) (long : t.operands ≤ length operands) where
@@ -155,6 +154,6 @@ module _ (t : Counts) (nodes operands roots : List ℕ) (well : WellFormed t nod
       ∙ sym (step k l (Or s 2) e ∙ rw two)
 
   -- a head's formula is its node's
-  pub head_formula_lem : (k : ℕ) → k < t.nodes → (h : Head) → head_of nodes operands (node_at nodes k) ≡ some h → head_formula h ≡ formula t nodes operands k
+  pub head_formula_lem : (k : ℕ) → k < t.nodes → (h : Head) → head_of nodes operands (node_at nodes k) ≡ Some h → head_formula h ≡ formula t nodes operands k
   unfolding f
   head_formula_lem k l h e = heads_formula k l (node_at nodes k) refl h (heads nodes operands (node_at nodes k) h e)

@@ -1,17 +1,16 @@
 -- The turns of a loop over the roots.
 -- Assumes nothing.
-use Rattle.std.specs.Prelude.{ℕ, ◌+◌, ◌*◌, ◌<◌, ◌≤◌, ◌≡◌, refl, List, [], ◌∷◌, ◌++◌, length, get_or, take, set}
+use Rattle.std.specs.Prelude.{ℕ, ◌+◌, ◌*◌, ◌<◌, ◌≤◌, ◌≡◌, refl, List, [], ◌∷◌, ◌++◌, length, get_or, take, set, Option, Some, None, Result, Ok, Err}
 use Rattle.std.proofs.Common.{add-one, arith, sym, ap, ◌∙◌, append_assoc, append-nil, length-append, take-suc}
 use Rattle.base.specs.Front.{front, front_more}
-use Rattle.theory.specs.declared.Admission.{Admission}
 use Rattle.compile.specs.Producer.{produced}
 use Rattle.compile.specs.Producers.{refused_by, supported_at, made_by, producers, producers_before, producer_words}
 use Rattle.compile.specs.declared.Producer.{Producer}
-use Rattle.compile.specs.declared.Produced.{Produced}
-use Rattle.compile.specs.declared.Produced.TheVariants.{Nothing, Made, Refused}
+use Rattle.theory.specs.Admission.{Admission}
+use Rattle.theory.specs.declared.Refusal.{Refusal}
 
 -- the root at hand, seen as the definition sees it
-pub root_seen : (nodes operands classes roots : List ℕ) (i root : ℕ) (made : Produced) (r : Admission)
+pub root_seen : (nodes operands classes roots : List ℕ) (i root : ℕ) (made : Result (Option Producer) Refusal) (r : Admission)
     → root ≡ get_or roots i 0 → made ≡ produced nodes operands classes root → r ≡ refused_by made
     → supported_at nodes operands classes roots i ≡ r
 unfolding supported_at
@@ -28,7 +27,7 @@ pub producers_none : (nodes operands classes roots : List ℕ) → producers_bef
 unfolding producers_before producers
 producers_none nodes operands classes roots = refl
 
-pub producers_more : (nodes operands classes roots : List ℕ) (i root : ℕ) (made : Produced) → i < length roots → root ≡ get_or roots i 0 → made ≡ produced nodes operands classes root
+pub producers_more : (nodes operands classes roots : List ℕ) (i root : ℕ) (made : Result (Option Producer) Refusal) → i < length roots → root ≡ get_or roots i 0 → made ≡ produced nodes operands classes root
     → producers_before nodes operands classes roots (i + 1) ≡ producers_before nodes operands classes roots i ++ made_by made
 unfolding producers_before producers
 producers_more nodes operands classes roots i root made h p q =
@@ -48,7 +47,7 @@ length-words (p ∷ ps) = omega (arith, length-words ps)
 
 -- four words from position `at` on
 unfoldable pub stored : List ℕ → ℕ → Producer → List ℕ
-stored ws at p = set (set (set (set ws at p.head) (at + 1) p.body) (at + 2) p.root) (at + 3) p.kind
+stored ws at p = set (set (set (set ws at p.head) (at + 1) p.body) (at + 2) p.root) (at + 3) (word_of p.kind)
 
 pub stored-front : (ps : List Producer) (ds : List ℕ) (p : Producer) (at : ℕ) → at ≡ 4 * length ps → at + 4 ≤ length ds
     → stored (front (producer_words ps) ds) at p ≡ front (producer_words (ps ++ (p ∷ []))) ds
@@ -59,35 +58,35 @@ stored-front ps ds p at e h =
     (rw (front_more (producer_words ps ++ (p.head ∷ [])) ds p.body (at + 1) (omega (arith, length-append (producer_words ps) (p.head ∷ []))) (omega arith))
     (rw (front_more ((producer_words ps ++ (p.head ∷ [])) ++ (p.body ∷ [])) ds p.root (at + 2)
     (omega (arith, length-append (producer_words ps ++ (p.head ∷ [])) (p.body ∷ []), length-append (producer_words ps) (p.head ∷ []))) (omega arith))
-    (rw (front_more (((producer_words ps ++ (p.head ∷ [])) ++ (p.body ∷ [])) ++ (p.root ∷ [])) ds p.kind (at + 3)
+    (rw (front_more (((producer_words ps ++ (p.head ∷ [])) ++ (p.body ∷ [])) ++ (p.root ∷ [])) ds (word_of p.kind) (at + 3)
     (omega (arith, length-append ((producer_words ps ++ (p.head ∷ [])) ++ (p.body ∷ [])) (p.root ∷ []), length-append (producer_words ps ++ (p.head ∷ [])) (p.body ∷ []), length-append (producer_words ps) (p.head ∷ []))) (omega arith))
     (ap (λ ws. front ws ds) (rw (words_append ps (p ∷ [])) (simp append_assoc))))))
 
 -- ---- what a root makes, written behind n producers
 
-abbrev pub MadeSmall : Produced → Type 0
-MadeSmall Nothing = Unit {0}
-MadeSmall (Made p) = (p.head < 4294967296) × (p.body < 4294967296) × (p.root < 4294967296) × (p.kind < 4294967296)
-MadeSmall (Refused r) = Unit {0}
+abbrev pub MadeSmall : Result (Option Producer) Refusal → Type 0
+MadeSmall (Ok None) = Unit {0}
+MadeSmall (Ok (Some p)) = (p.head < 4294967296) × (p.body < 4294967296) × (p.root < 4294967296)
+MadeSmall (Err r) = Unit {0}
 
-unfoldable pub appended : List ℕ → ℕ → Produced → List ℕ
-appended ws n Nothing = ws
-appended ws n (Made p) = stored ws (4 * n) p
-appended ws n (Refused r) = ws
+unfoldable pub appended : List ℕ → ℕ → Result (Option Producer) Refusal → List ℕ
+appended ws n (Ok None) = ws
+appended ws n (Ok (Some p)) = stored ws (4 * n) p
+appended ws n (Err r) = ws
 
-pub appended-front : (ps : List Producer) (ds : List ℕ) (made : Produced) (n : ℕ) → n ≡ length ps → 4 * n + 4 ≤ length ds
+pub appended-front : (ps : List Producer) (ds : List ℕ) (made : Result (Option Producer) Refusal) (n : ℕ) → n ≡ length ps → 4 * n + 4 ≤ length ds
     → appended (front (producer_words ps) ds) n made ≡ front (producer_words (ps ++ made_by made)) ds
 unfolding appended made_by
-appended-front ps ds Nothing n e h = rw append-nil
-appended-front ps ds (Made p) n e h = stored-front ps ds p (4 * n) (rw e) h
-appended-front ps ds (Refused r) n e h = rw append-nil
+appended-front ps ds (Ok None) n e h = rw append-nil
+appended-front ps ds (Ok (Some p)) n e h = stored-front ps ds p (4 * n) (rw e) h
+appended-front ps ds (Err r) n e h = rw append-nil
 
 -- a root makes at most one producer
-pub made_one : (made : Produced) → length (made_by made) ≤ 1
+pub made_one : (made : Result (Option Producer) Refusal) → length (made_by made) ≤ 1
 unfolding made_by
-made_one Nothing = omega arith
-made_one (Made p) = omega arith
-made_one (Refused r) = omega arith
+made_one (Ok None) = omega arith
+made_one (Ok (Some p)) = omega arith
+made_one (Err r) = omega arith
 
 -- at most one a root
 pub few-producers : (nodes operands classes roots : List ℕ) → length (producers nodes operands classes roots) ≤ length roots
@@ -97,7 +96,7 @@ few-producers nodes operands classes (k ∷ roots) =
     omega (arith, length-append (made_by (produced nodes operands classes k)) (producers nodes operands classes roots), made_one (produced nodes operands classes k), few-producers nodes operands classes roots)
 
 -- a turn of the loop that writes the producers
-module _ (nodes operands classes roots : List ℕ) (i root : ℕ) (made : Produced) (h : i < length roots) (p : root ≡ get_or roots i 0) (q : made ≡ produced nodes operands classes root) where
+module _ (nodes operands classes roots : List ℕ) (i root : ℕ) (made : Result (Option Producer) Refusal) (h : i < length roots) (p : root ≡ get_or roots i 0) (q : made ≡ produced nodes operands classes root) where
   pub extract_count : (n r : ℕ) → n ≡ length (producers_before nodes operands classes roots i) → r ≡ n + length (made_by made) → r ≡ length (producers_before nodes operands classes roots (i + 1))
   extract_count n r e s =
       rw (producers_more nodes operands classes roots i root made h p q, length-append) (omega arith)

@@ -10,43 +10,34 @@ ghost use Rattle.theory.specs.Limits.{Limited};
 ghost use Rattle.theory.specs.Spans.{Indexed};
 ghost use Rattle.compile.specs.ClassWord.{node_class_word, class_words};
 ghost use Rattle.compile.specs.Greatest.{greatest_of};
-ghost use Rattle.compile.specs.Head.{as_atom, chosen, either_order, head_of, found_of, headed_of};
+ghost use Rattle.compile.specs.Head.{as_atom, chosen, either_order, head_of, seen, word_of};
 ghost use Rattle.compile.specs.Producer.{fact, rule, produced};
-ghost use Rattle.compile.specs.Producers.{refused_by, roots_supported, made_by, producers_before, producer_words};
+ghost use Rattle.compile.specs.Producers.{roots_supported, made_by, producers_before, producer_words};
 ghost use Rattle.compile.specs.ProducersLaws.{stored, appended, MadeSmall};
 ghost use Rattle.compile.specs.ProducerLaws.{bodied};
 
-use theory::{Admission, Counts, Node, Refusal};
+use theory::{Counts, Node, Refusal};
 
-// One root's producer: its head's atom, its body's node + 1 or 0 without body, its root's node, 0 for a normal head and 1 for a choice.
+#[derive(Clone, Copy)]
+pub enum Kind {
+    Normal,
+    Choice,
+}
+
+// What kind of head a node is, and of which atom.
+#[derive(Clone, Copy)]
+pub struct Head {
+    pub atom: usize,
+    pub kind: Kind,
+}
+
+// One root's producer: its head's atom and kind, its body's node + 1 or 0 without body, its root's node.
 #[derive(Clone, Copy)]
 pub struct Producer {
     pub head: usize,
     pub body: usize,
     pub root: usize,
-    pub kind: usize,
-}
-
-#[derive(Clone, Copy)]
-pub enum Produced {
-    Nothing,
-    Made(Producer),
-    Refused(Refusal),
-}
-
-// The atom of a node, if it is an Atom.
-#[derive(Clone, Copy)]
-pub enum Found {
-    At(usize),
-    Nowhere,
-}
-
-// What kind of head a node is, and of which atom.
-#[derive(Clone, Copy)]
-pub enum Headed {
-    Normal(usize),
-    Choice(usize),
-    Unsupported,
+    pub kind: Kind,
 }
 
 // The greatest of the values that the count operands from start on have.
@@ -57,11 +48,9 @@ pub fn maximum_operand(operands: &[u32], values: &[u32], start: usize, count: us
 {
     let end = start + count;
     let mut value = 0;
-    let mut i = start;
-    while i < end {
+    for i in start..end {
         let child = words::word(operands, i);
         value = words::greater(value, words::word(values, child));
-        i += 1;
     }
     value
 }
@@ -71,14 +60,7 @@ fn is_false(nodes: &[u32], k: usize) -> bool
     requires { 3 * k + 2 < length nodes.now }
     ensures { result ≡ is_false (node_at nodes.now k) }
 {
-    match theory::view(nodes, k) {
-        Node::Atom(_) => false,
-        Node::False => true,
-        Node::Implies(_, _) => false,
-        Node::And(_, _) => false,
-        Node::Or(_, _) => false,
-        Node::Unknown => false,
-    }
+    matches!(theory::view(nodes, k), Node::False)
 }
 
 // The class word of node k, from those of lower nodes.
@@ -109,103 +91,91 @@ pub fn classify(counts: Counts, nodes: &[u32], operands: &[u32], classes: &mut [
     ensures { classes.new ≡ class_words nodes.now operands.now counts.nodes ++ drop counts.nodes classes.old }
 {
     let n = counts.nodes;
-    let mut k = 0;
-    while k < n {
+    for k in 0..n {
         let class = classify_node(counts, nodes, operands, classes, k);
         classes[k] = class as u32;
-        k += 1;
     }
 }
 
-fn atom_at(nodes: &[u32], p: usize) -> Found
+// The atom of node p, if it is an Atom.
+fn atom_at(nodes: &[u32], p: usize) -> Option<usize>
     requires { 3 * p + 2 < length nodes.now }
-    ensures { result ≡ found_of (as_atom (node_at nodes.now p)) }
+    ensures { result ≡ as_atom (node_at nodes.now p) }
 {
     match theory::view(nodes, p) {
-        Node::Atom(a) => Found::At(a),
-        Node::False => Found::Nowhere,
-        Node::Implies(_, _) => Found::Nowhere,
-        Node::And(_, _) => Found::Nowhere,
-        Node::Or(_, _) => Found::Nowhere,
-        Node::Unknown => Found::Nowhere,
+        Node::Atom(a) => Some(a),
+        _ => None,
     }
 }
 
 // The atom of node p, if node q is an Implies from p to a False node.
-fn choice_of(counts: Counts, nodes: &[u32], operands: &[u32], p: usize, q: usize) -> Found
+fn choice_of(counts: Counts, nodes: &[u32], operands: &[u32], p: usize, q: usize) -> Option<usize>
     requires { (p < counts.nodes) × (q < counts.nodes) × NodeTables counts nodes.now operands.now }
-    ensures { result ≡ found_of (chosen nodes.now p q) }
+    ensures { result ≡ chosen nodes.now p q }
 {
     match theory::view(nodes, q) {
         Node::Implies(left, right) => {
             if left != p {
-                return Found::Nowhere;
+                return None;
             }
             if is_false(nodes, right) {
                 atom_at(nodes, p)
             } else {
-                Found::Nowhere
+                None
             }
         }
-        Node::Atom(_) => Found::Nowhere,
-        Node::False => Found::Nowhere,
-        Node::And(_, _) => Found::Nowhere,
-        Node::Or(_, _) => Found::Nowhere,
-        Node::Unknown => Found::Nowhere,
+        _ => None,
     }
 }
 
 // The head that an Or of the two operands p and q makes.
-fn choice_head(counts: Counts, nodes: &[u32], operands: &[u32], p: usize, q: usize) -> Headed
+fn choice_head(counts: Counts, nodes: &[u32], operands: &[u32], p: usize, q: usize) -> Option<Head>
     requires { (p < counts.nodes) × (q < counts.nodes) × NodeTables counts nodes.now operands.now }
-    ensures { result ≡ headed_of (either_order (chosen nodes.now p q) (chosen nodes.now q p)) }
+    ensures { result ≡ seen (either_order (chosen nodes.now p q) (chosen nodes.now q p)) }
 {
     let first = choice_of(counts, nodes, operands, p, q);
-    if let Found::At(a) = first {
-        return Headed::Choice(a);
+    if let Some(atom) = first {
+        return Some(Head { atom, kind: Kind::Choice });
     }
     match choice_of(counts, nodes, operands, q, p) {
-        Found::At(a) => Headed::Choice(a),
-        Found::Nowhere => Headed::Unsupported,
+        Some(atom) => Some(Head { atom, kind: Kind::Choice }),
+        None => None,
     }
 }
 
 // The head that node k makes.
-fn head_of(counts: Counts, nodes: &[u32], operands: &[u32], k: usize) -> Headed
+fn head_of(counts: Counts, nodes: &[u32], operands: &[u32], k: usize) -> Option<Head>
     requires { (k < counts.nodes) × NodeTables counts nodes.now operands.now }
-    ensures { result ≡ headed_of (head_of nodes.now operands.now (node_at nodes.now k)) }
+    ensures { result ≡ seen (head_of nodes.now operands.now (node_at nodes.now k)) }
 {
     match theory::view(nodes, k) {
-        Node::Atom(a) => Headed::Normal(a),
+        Node::Atom(atom) => Some(Head { atom, kind: Kind::Normal }),
         Node::Or(s, c) => {
             if c != 2 {
-                return Headed::Unsupported;
+                return None;
             }
             let p = words::word(operands, s);
             let q = words::word(operands, s + 1);
             choice_head(counts, nodes, operands, p, q)
         }
-        Node::False => Headed::Unsupported,
-        Node::Implies(_, _) => Headed::Unsupported,
-        Node::And(_, _) => Headed::Unsupported,
-        Node::Unknown => Headed::Unsupported,
+        _ => None,
     }
 }
 
 // A head with a body: an Opaque body is refused.
-fn with_body(classes: &[u32], root: usize, body: usize, head: usize, kind: usize) -> Produced
+fn with_body(classes: &[u32], root: usize, body: usize, head: Head) -> Result<Option<Producer>, Refusal>
     requires { body < length classes.now }
-    ensures { result ≡ bodied classes.now root body head kind }
+    ensures { result ≡ bodied classes.now root body head }
 {
     if words::word(classes, body) == 2 {
-        return Produced::Refused(Refusal::UnsupportedBody(root, body));
+        return Err(Refusal::UnsupportedBody(root, body));
     }
-    Produced::Made(Producer {
-        head,
+    Ok(Some(Producer {
+        head: head.atom,
         body: body + 1,
         root,
-        kind,
-    })
+        kind: head.kind,
+    }))
 }
 
 fn produce_rule(
@@ -216,35 +186,28 @@ fn produce_rule(
     root: usize,
     body: usize,
     head: usize,
-) -> Produced
+) -> Result<Option<Producer>, Refusal>
     requires { (body < length classes.now) × (head < counts.nodes) × NodeTables counts nodes.now operands.now }
     ensures { result ≡ rule classes.now root body (head_of nodes.now operands.now (node_at nodes.now head)) }
 {
     match head_of(counts, nodes, operands, head) {
-        Headed::Normal(a) => with_body(classes, root, body, a, 0),
-        Headed::Choice(a) => with_body(classes, root, body, a, 1),
-        Headed::Unsupported => Produced::Refused(Refusal::UnsupportedRoot(root)),
+        Some(h) => with_body(classes, root, body, h),
+        None => Err(Refusal::UnsupportedRoot(root)),
     }
 }
 
-fn produce_fact(counts: Counts, nodes: &[u32], operands: &[u32], root: usize) -> Produced
+fn produce_fact(counts: Counts, nodes: &[u32], operands: &[u32], root: usize) -> Result<Option<Producer>, Refusal>
     requires { (root < counts.nodes) × NodeTables counts nodes.now operands.now }
     ensures { result ≡ fact root (head_of nodes.now operands.now (node_at nodes.now root)) }
 {
     match head_of(counts, nodes, operands, root) {
-        Headed::Normal(a) => Produced::Made(Producer {
-            head: a,
+        Some(h) => Ok(Some(Producer {
+            head: h.atom,
             body: 0,
             root,
-            kind: 0,
-        }),
-        Headed::Choice(a) => Produced::Made(Producer {
-            head: a,
-            body: 0,
-            root,
-            kind: 1,
-        }),
-        Headed::Unsupported => Produced::Refused(Refusal::UnsupportedRoot(root)),
+            kind: h.kind,
+        })),
+        None => Err(Refusal::UnsupportedRoot(root)),
     }
 }
 
@@ -255,32 +218,19 @@ pub fn produce(
     operands: &[u32],
     classes: &[u32],
     root: usize,
-) -> Produced
+) -> Result<Option<Producer>, Refusal>
     requires { (root < counts.nodes) × (counts.nodes ≤ length classes.now) × NodeTables counts nodes.now operands.now }
     ensures { result ≡ produced nodes.now operands.now classes.now root }
 {
     match theory::view(nodes, root) {
-        Node::False => Produced::Nothing,
+        Node::False => Ok(None),
         Node::Implies(left, right) => {
             if is_false(nodes, right) {
-                return Produced::Nothing;
+                return Ok(None);
             }
             produce_rule(counts, nodes, operands, classes, root, left, right)
         }
-        Node::Atom(_) => produce_fact(counts, nodes, operands, root),
-        Node::And(_, _) => produce_fact(counts, nodes, operands, root),
-        Node::Or(_, _) => produce_fact(counts, nodes, operands, root),
-        Node::Unknown => produce_fact(counts, nodes, operands, root),
-    }
-}
-
-fn root_supported(made: Produced) -> Admission
-    ensures { result ≡ refused_by made }
-{
-    match made {
-        Produced::Nothing => Admission::Admitted,
-        Produced::Made(_) => Admission::Admitted,
-        Produced::Refused(r) => Admission::Refused(r),
+        _ => produce_fact(counts, nodes, operands, root),
     }
 }
 
@@ -291,46 +241,52 @@ pub fn roots_supported(
     operands: &[u32],
     roots: &[u32],
     classes: &[u32],
-) -> Admission
+) -> Result<(), Refusal>
     requires { (counts.nodes ≤ length classes.now) × NodeTables counts nodes.now operands.now × RootTable counts roots.now }
     ensures { result ≡ roots_supported counts nodes.now operands.now classes.now roots.now }
 {
     let n = counts.roots;
-    let mut i = 0;
-    while i < n {
+    for i in 0..n {
         let root = words::word(roots, i);
-        let admitted = root_supported(produce(counts, nodes, operands, classes, root));
-        if let Admission::Refused(r) = admitted {
-            return Admission::Refused(r);
-        }
-        i += 1;
+        produce(counts, nodes, operands, classes, root)?;
     }
-    Admission::Admitted
+    Ok(())
+}
+
+// The word of a kind.
+impl From<Kind> for u32 {
+    fn from(kind: Kind) -> u32
+        ensures { result ≡ word_of kind }
+    {
+        match kind {
+            Kind::Normal => 0,
+            Kind::Choice => 1,
+        }
+    }
 }
 
 // Writes the producer's four words from position at on.
 fn store(table: &mut [u32], at: usize, p: Producer)
-    requires { (at + 4 ≤ length table.old) × (p.head < 4294967296) × (p.body < 4294967296) × (p.root < 4294967296) × (p.kind < 4294967296) }
+    requires { (at + 4 ≤ length table.old) × (p.head < 4294967296) × (p.body < 4294967296) × (p.root < 4294967296) }
     ensures { table.new ≡ stored table.old at p }
 {
     table[at] = p.head as u32;
     table[at + 1] = p.body as u32;
     table[at + 2] = p.root as u32;
-    table[at + 3] = p.kind as u32;
+    table[at + 3] = u32::from(p.kind);
 }
 
 // Writes what the root makes behind the n producers that stand in the table; answers how many stand there then.
-fn append(table: &mut [u32], n: usize, made: Produced) -> usize
+fn append(table: &mut [u32], n: usize, made: Result<Option<Producer>, Refusal>) -> usize
     requires { (4 * n + 4 ≤ length table.old) × MadeSmall made × (n < 4294967296) }
     ensures { (result ≡ n + length (made_by made)) × (table.new ≡ appended table.old n made) }
 {
     match made {
-        Produced::Made(p) => {
+        Ok(Some(p)) => {
             store(table, 4 * n, p);
             n + 1
         }
-        Produced::Nothing => n,
-        Produced::Refused(_) => n,
+        _ => n,
     }
 }
 
@@ -349,12 +305,10 @@ pub fn extract(
 {
     let n = counts.roots;
     let mut made = 0;
-    let mut i = 0;
-    while i < n {
+    for i in 0..n {
         let root = words::word(roots, i);
         let produced = produce(counts, nodes, operands, classes, root);
         made = append(table, made, produced);
-        i += 1;
     }
     made
 }

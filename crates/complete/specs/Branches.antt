@@ -2,9 +2,8 @@
 -- Assumes nothing.
 use Prim.Native.Nat.{ℕ, zero, suc, ◌<◌, ◌≤◌, ◌+◌, ◌-◌}
 use Rattle.std.proofs.Common.{add-zero, add-one, arith, ap₂, ◌∙◌, subst}
-use Rattle.std.specs.Prelude.{◌≡◌, Bool, true, false, cond, List, length, get_or}
+use Rattle.std.specs.Prelude.{◌≡◌, Bool, true, false, cond, List, length, get_or, Option, Some, None}
 use Rattle.std.proofs.Math.Path.{refl, ap, sym}
-use Rattle.std.proofs.Math.Option.{Option, some, none}
 use Rattle.std.proofs.Math.ListN.{set}
 use Rattle.std.proofs.lemmas.List.{set-get_or}
 use borrow.Author.Tests.{lt-ltb, le-ltb, le-leb, lt-leb}
@@ -40,9 +39,9 @@ module _ (T : Tables) (ws : List ℕ) (long : used T ≤ length ws) where
     pub truth-stored : (o : Option Bool) → o ≡ node_seen T.counts T.operands (present_in T.counts ws) (true_in ws) k n
         → (ok : Bool) (after : List ℕ) → Stored ws k o ok after → Wrote T ws (truth_set T k e) ok after
     unfolding truth_set
-    truth-stored none p ok after s = rw (read none p) (s.0, rw s.1 (beside_same T ws))
-    truth-stored (some t) p ok after s =
-        rw (read (some t) p) (s.0, s.1 ∙ ap (λ w. set w (8 + k) (truth_word t)) (sym same) ∙ put_truth T ws long e (fits_of T ws long) k (truth_word t) l)
+    truth-stored None p ok after s = rw (read None p) (s.0, rw s.1 (beside_same T ws))
+    truth-stored (Some t) p ok after s =
+        rw (read (Some t) p) (s.0, s.1 ∙ ap (λ w. set w (8 + k) (truth_word t)) (sym same) ∙ put_truth T ws long e (fits_of T ws long) k (truth_word t) l)
 
   -- ---- producer p
 
@@ -61,7 +60,7 @@ module _ (T : Tables) (ws : List ℕ) (long : used T ≤ length ws) where
     body_stray l m = wrote_none T ws (producer_counted T p e) ws (rw (sym h, sym b, lt-ltb head (atom_count T) l, lt-leb body (node_count T) m)) (beside_same T ws)
 
     module _ (l : head < atom_count T) (m : body ≤ node_count T) where
-      entered : producer_counted T p e ≡ some (with_support e (counted T p e) e.missing)
+      entered : producer_counted T p e ≡ Some (with_support e (counted T p e) e.missing)
       unfolding producer_counted
       entered = rw (sym h, sym b, lt-ltb head (atom_count T) l, le-leb body (node_count T) m)
 

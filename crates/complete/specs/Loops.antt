@@ -1,12 +1,10 @@
 -- The loops over nodes, producers, roots and the atoms that lack support: how each begins, goes on, stops and ends.
 -- Assumes nothing.
-use Rattle.std.specs.Prelude.{ℕ, suc, ◌<◌, ◌≤◌, ◌+◌, ◌-◌, ◌≡◌, Bool, true, false, List, length, replicate}
+use Rattle.std.specs.Prelude.{ℕ, suc, ◌<◌, ◌≤◌, ◌+◌, ◌-◌, ◌≡◌, Bool, true, false, List, length, replicate, Some, Err}
 use Rattle.std.proofs.Common.{arith, sym, ◌∙◌}
 use Rattle.std.proofs.Math.Path.{ap}
-use Rattle.std.proofs.Math.Option.{some}
 use Rattle.base.specs.Places.{Lowest}
-use Rattle.theory.specs.Admission.{first_refusal}
-use Rattle.theory.specs.declared.Admission.TheVariants.{Admitted, Refused}
+use Rattle.theory.specs.Admission.{first_refusal, admitted}
 use Rattle.theory.specs.declared.Refusal.TheVariants.{BadEntry}
 use Rattle.kept.specs.Tables.{Tables, atom_count, node_count, root_count}
 use Rattle.kept.specs.Evaluation.{Evaluation, present, no_members}
@@ -51,14 +49,14 @@ module _ (T : Tables) (ws : List ℕ) (long : used T ≤ length ws) where
   pub truths_none : Truths T ws 0 ws
   truths_none = run_none T ws long (node_count T) (risen T e) (node_entry T (present e)) (risen_none T e)
 
-  pub truths_done : (k : ℕ) (mid : List ℕ) → Truths T ws k mid → node_count T ≤ k → k ≤ node_count T → Laid T ws (first_refusal (node_entry T (present e)) 0 (node_count T)) (truths_laid T e) Admitted mid
+  pub truths_done : (k : ℕ) (mid : List ℕ) → Truths T ws k mid → node_count T ≤ k → k ≤ node_count T → Laid T ws (first_refusal (node_entry T (present e)) 0 (node_count T)) (truths_laid T e) admitted mid
   truths_done k mid r l m = run_done T ws long (node_count T) (risen T e) (node_entry T (present e)) k mid (truths_laid T e) (risen_fits T e fits) r l m (risen_all T e fits)
 
   module _ (k : ℕ) (l : k < node_count T) (mid : List ℕ) (r : Truths T ws k mid) (ok : Bool) (after : List ℕ) (w : Wrote T mid (truth_set T k (of_words T mid)) ok after) where
     pub truths_next : ok ≡ true → Truths T ws (k + 1) after
     truths_next = run_next T ws long (node_count T) (risen T e) (node_entry T (present e)) (truth_set T) (λ j. j) (risen_fits T e fits) k l (risen_turn T e fits k l) mid r ok after w
 
-    pub truths_stop : ok ≡ false → (d : Evaluation) → Laid T ws (first_refusal (node_entry T (present e)) 0 (node_count T)) d (Refused (BadEntry k)) after
+    pub truths_stop : ok ≡ false → (d : Evaluation) → Laid T ws (first_refusal (node_entry T (present e)) 0 (node_count T)) d (Err (BadEntry k)) after
     truths_stop = run_stop T ws long (node_count T) (risen T e) (node_entry T (present e)) (truth_set T) (λ j. j) (risen_fits T e fits) k l (risen_turn T e fits k l) mid r ok after w
 
   -- ---- producers
@@ -66,14 +64,14 @@ module _ (T : Tables) (ws : List ℕ) (long : used T ≤ length ws) where
   pub supports_none : e.support ≡ replicate (atom_count T) 0 → Supports T ws 0 ws
   supports_none z = run_none T ws long T.made (supplied T e) (producer_entry T) (supplied_none T e z)
 
-  pub supports_done : (p : ℕ) (mid : List ℕ) → Supports T ws p mid → T.made ≤ p → p ≤ T.made → Laid T ws (first_refusal (producer_entry T) 0 T.made) (support_laid T e) Admitted mid
+  pub supports_done : (p : ℕ) (mid : List ℕ) → Supports T ws p mid → T.made ≤ p → p ≤ T.made → Laid T ws (first_refusal (producer_entry T) 0 T.made) (support_laid T e) admitted mid
   supports_done p mid r l m = run_done T ws long T.made (supplied T e) (producer_entry T) p mid (support_laid T e) (λ k i. supplied_fits T e fits k) r l m (supplied_all T e)
 
   module _ (p : ℕ) (l : p < T.made) (mid : List ℕ) (r : Supports T ws p mid) (ok : Bool) (after : List ℕ) (w : Wrote T mid (producer_counted T p (of_words T mid)) ok after) where
     pub supports_next : ok ≡ true → Supports T ws (p + 1) after
     supports_next = run_next T ws long T.made (supplied T e) (producer_entry T) (producer_counted T) (λ j. 0) (λ k i. supplied_fits T e fits k) p l (supplied_turn T e p) mid r ok after w
 
-    pub supports_stop : ok ≡ false → (d : Evaluation) → Laid T ws (first_refusal (producer_entry T) 0 T.made) d (Refused (BadEntry 0)) after
+    pub supports_stop : ok ≡ false → (d : Evaluation) → Laid T ws (first_refusal (producer_entry T) 0 T.made) d (Err (BadEntry 0)) after
     supports_stop = run_stop T ws long T.made (supplied T e) (producer_entry T) (producer_counted T) (λ j. 0) (λ k i. supplied_fits T e fits k) p l (supplied_turn T e p) mid r ok after w
 
   -- ---- roots
@@ -81,14 +79,14 @@ module _ (T : Tables) (ws : List ℕ) (long : used T ≤ length ws) where
   pub fails_none : e.false_roots ≡ no_members (root_count T) → Fails T ws 0 ws
   fails_none z = run_none T ws long (root_count T) (failed T e) (root_entry T) (failed_none T e z)
 
-  pub fails_done : (p : ℕ) (mid : List ℕ) → Fails T ws p mid → root_count T ≤ p → p ≤ root_count T → Laid T ws (first_refusal (root_entry T) 0 (root_count T)) (roots_laid T e) Admitted mid
+  pub fails_done : (p : ℕ) (mid : List ℕ) → Fails T ws p mid → root_count T ≤ p → p ≤ root_count T → Laid T ws (first_refusal (root_entry T) 0 (root_count T)) (roots_laid T e) admitted mid
   fails_done p mid r l m = run_done T ws long (root_count T) (failed T e) (root_entry T) p mid (roots_laid T e) (λ k i. failed_fits T e fits k) r l m (failed_all T e)
 
   module _ (p : ℕ) (l : p < root_count T) (mid : List ℕ) (r : Fails T ws p mid) (ok : Bool) (after : List ℕ) (w : Wrote T mid (root_laid T p (of_words T mid)) ok after) where
     pub fails_next : ok ≡ true → Fails T ws (p + 1) after
     fails_next = run_next T ws long (root_count T) (failed T e) (root_entry T) (root_laid T) (λ j. 0) (λ k i. failed_fits T e fits k) p l (failed_turn T e p l) mid r ok after w
 
-    pub fails_stop : ok ≡ false → (d : Evaluation) → Laid T ws (first_refusal (root_entry T) 0 (root_count T)) d (Refused (BadEntry 0)) after
+    pub fails_stop : ok ≡ false → (d : Evaluation) → Laid T ws (first_refusal (root_entry T) 0 (root_count T)) d (Err (BadEntry 0)) after
     fails_stop = run_stop T ws long (root_count T) (failed T e) (root_entry T) (root_laid T) (λ j. 0) (λ k i. failed_fits T e fits k) p l (failed_turn T e p l) mid r ok after w
 
   -- ---- the atoms that lack support
@@ -108,7 +106,7 @@ module _ (T : Tables) (ws : List ℕ) (long : used T ≤ length ws) where
     gone : after ≡ written T ws (lacking T e (suc a))
     gone =
         let held : of_words T mid ≡ lacking T e a = mid_holds T ws mid (lacking T e a) long (lacking_fits T e fits a) r.holds in
-        let made : Wrote T mid (some (lacking T e (suc a))) ok after = rw (ap (missing_turned T a true) held ∙ lacking_next T e a l (r.here l)) at w in
+        let made : Wrote T mid (Some (lacking T e (suc a))) ok after = rw (ap (missing_turned T a true) held ∙ lacking_next T e a l (r.here l)) at w in
         made.1 ∙ ap (λ x. written T x (lacking T e (suc a))) r.holds ∙ written_again T ws long (lacking T e a) (lacking_fits T e fits a) (lacking T e (suc a))
 
     -- the words that are sought through say the same of each atom

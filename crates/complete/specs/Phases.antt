@@ -1,7 +1,6 @@
 -- The phases of a fresh check as changes of an evaluation.
 -- Assumes nothing.
-use Rattle.std.specs.Prelude.{ℕ, suc, ◌+◌, ◌≡◌, Bool, true, false, cond, ◌&&◌, List, eqb, ltb, leb, get_or, set, replicate}
-use Rattle.std.proofs.Math.Option.{Option, some, none}
+use Rattle.std.specs.Prelude.{ℕ, suc, ◌+◌, ◌≡◌, Bool, true, false, cond, ◌&&◌, List, eqb, ltb, leb, get_or, set, replicate, Option, Some, None}
 use Rattle.theory.specs.declared.Counts.{Counts}
 use Rattle.kept.specs.Tabulate.{tabulate}
 use Rattle.kept.specs.SetOf.{words32}
@@ -84,12 +83,12 @@ begun T truths candidate =
 
 -- the word of node k gets a truth that was read; ok tells whether there is one
 abbrev pub Stored : List ℕ → ℕ → Option Bool → Bool → List ℕ → Type 0
-Stored ws k none ok after = (ok ≡ false) × (after ≡ ws)
-Stored ws k (some t) ok after = (ok ≡ true) × (after ≡ set ws (8 + k) (truth_word t))
+Stored ws k None ok after = (ok ≡ false) × (after ≡ ws)
+Stored ws k (Some t) ok after = (ok ≡ true) × (after ≡ set ws (8 + k) (truth_word t))
 
 -- node k by the lower ones
 unfoldable pub truth_set : Tables → ℕ → Evaluation → Option Evaluation
-truth_set T k e = and_then (seen_by T (present e) (truth_at e) k) (λ t. some (with_truths e (set e.truths k (truth_word t))))
+truth_set T k e = and_then (seen_by T (present e) (truth_at e) k) (λ t. Some (with_truths e (set e.truths k (truth_word t))))
 
 unfoldable pub truths_laid : Tables → Evaluation → Evaluation
 truths_laid T e = with_truths e (tabulate (node_count T) (λ k. truth_word (truth T (present e) k)))
@@ -101,7 +100,7 @@ unfoldable pub counted : Tables → ℕ → Evaluation → List ℕ
 counted T p e = cond (body_true (truth_at e) (body_at T p)) (set e.support (head_at T p) (suc (get_or e.support (head_at T p) 0))) e.support
 
 unfoldable pub producer_counted : Tables → ℕ → Evaluation → Option Evaluation
-producer_counted T p e = cond (ltb (head_at T p) (atom_count T) && leb (body_at T p) (node_count T)) (some (with_support e (counted T p e) e.missing)) none
+producer_counted T p e = cond (ltb (head_at T p) (atom_count T) && leb (body_at T p) (node_count T)) (Some (with_support e (counted T p e) e.missing)) None
 
 unfoldable pub support_laid : Tables → Evaluation → Evaluation
 support_laid T e = with_support e (tabulate (atom_count T) (support T (truth_at e))) e.missing
@@ -119,7 +118,7 @@ missing_laid T e = with_support e e.support (counted_set (lacks e) (atom_count T
 
 -- root position p
 unfoldable pub root_laid : Tables → ℕ → Evaluation → Option Evaluation
-root_laid T p e = cond (ltb (root_at T p) (node_count T)) (cond (truth_at e (root_at T p)) (some e) (root_turned T false p e)) none
+root_laid T p e = cond (ltb (root_at T p) (node_count T)) (cond (truth_at e (root_at T p)) (Some e) (root_turned T false p e)) None
 
 unfoldable pub roots_laid : Tables → Evaluation → Evaluation
 roots_laid T e = with_false_roots e (counted_set (false_root T (truth_at e)) (root_count T))

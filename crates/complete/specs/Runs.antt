@@ -1,13 +1,10 @@
 -- A loop of steps, each of which writes the next evaluation or is the first refusal.
 -- Assumes nothing.
-use Rattle.std.specs.Prelude.{ℕ, suc, ◌<◌, ◌≤◌, ◌+◌, ◌-◌, ◌≡◌, ◌⊎◌, Bool, true, false, List, length}
+use Rattle.std.specs.Prelude.{ℕ, suc, ◌<◌, ◌≤◌, ◌+◌, ◌-◌, ◌≡◌, ◌⊎◌, Bool, true, false, List, length, Option, Some, None, Err}
 use Rattle.std.proofs.Common.{add-one, arith, ap, sym, ◌∙◌, ⊎_elim, true≢false}
 use Rattle.std.proofs.Math.Nat.{sub-zero}
-use Rattle.std.proofs.Math.Option.{Option, some, none}
-use Rattle.theory.specs.Admission.{first_refusal}
+use Rattle.theory.specs.Admission.{first_refusal, Admission, admitted}
 use Rattle.theory.specs.Refusals.{first_stop, first_go, first_done, not_both}
-use Rattle.theory.specs.declared.Admission.{Admission}
-use Rattle.theory.specs.declared.Admission.TheVariants.{Admitted, Refused}
 use Rattle.theory.specs.declared.Refusal.TheVariants.{BadEntry}
 use Rattle.kept.specs.Tables.{Tables}
 use Rattle.kept.specs.Evaluation.{Evaluation}
@@ -24,13 +21,13 @@ pub record Run (T : Tables) (ws : List ℕ) (n : ℕ) (state : ℕ → Evaluatio
 
 -- step k is admitted and makes the next state, or it is refused at a place
 abbrev pub Turn : (ℕ → Evaluation) → (ℕ → Admission) → (ℕ → Evaluation → Option Evaluation) → (ℕ → ℕ) → ℕ → Type 0
-Turn state entry step place k = ((entry k ≡ Admitted) × (step k (state k) ≡ some (state (suc k)))) ⊎ ((entry k ≡ Refused (BadEntry (place k))) × (step k (state k) ≡ none))
+Turn state entry step place k = ((entry k ≡ admitted) × (step k (state k) ≡ Some (state (suc k)))) ⊎ ((entry k ≡ Err (BadEntry (place k))) × (step k (state k) ≡ None))
 
 module _ (T : Tables) (ws : List ℕ) (long : used T ≤ length ws) (n : ℕ) (state : ℕ → Evaluation) (entry : ℕ → Admission) where
   pub run_none : state 0 ≡ of_words T ws → Run T ws n state entry 0 ws
   run_none p = record { holds = sym (ap (written T ws) p ∙ written_same T ws long); left = rw sub-zero }
 
-  pub run_done : (k : ℕ) (mid : List ℕ) (e : Evaluation) → ((k : ℕ) → k ≤ n → Fits T (state k)) → Run T ws n state entry k mid → n ≤ k → k ≤ n → state n ≡ e → Laid T ws (first_refusal entry 0 n) e Admitted mid
+  pub run_done : (k : ℕ) (mid : List ℕ) (e : Evaluation) → ((k : ℕ) → k ≤ n → Fits T (state k)) → Run T ws n state entry k mid → n ≤ k → k ≤ n → state n ≡ e → Laid T ws (first_refusal entry 0 n) e admitted mid
   run_done k mid e fits r l m q =
       let i : k ≡ n = omega arith in
       let w : mid ≡ written T ws (state n) = r.holds ∙ ap (λ j. written T ws (state j)) i in
@@ -56,10 +53,10 @@ module _ (T : Tables) (ws : List ℕ) (long : used T ≤ length ws) (n : ℕ) (s
         made : after ≡ written T mid (state (suc k)) → after ≡ written T ws (state (k + 1))
         made p = p ∙ ap (λ x. written T x (state (suc k))) r.holds ∙ written_again T ws long (state k) (fits k (omega arith)) (state (suc k)) ∙ ap (λ j. written T ws (state j)) (sym (add-one k))
 
-    pub run_stop : ok ≡ false → (e : Evaluation) → Laid T ws (first_refusal entry 0 n) e (Refused (BadEntry (place k))) after
+    pub run_stop : ok ≡ false → (e : Evaluation) → Laid T ws (first_refusal entry 0 n) e (Err (BadEntry (place k))) after
     run_stop f e = ⊎_elim
         (λ h. absurd (true≢false (sym (rw h.1 at here).0 ∙ f)))
         (λ h.
-        let stop : Refused (BadEntry (place k)) ≡ first_refusal entry 0 n = first_stop entry k n (first_refusal entry 0 n) r.left (BadEntry (place k)) l h.0 in
+        let stop : Err (BadEntry (place k)) ≡ first_refusal entry 0 n = first_stop entry k n (first_refusal entry 0 n) r.left (BadEntry (place k)) l h.0 in
         (stop, λ q. absurd (not_both (BadEntry (place k)) (stop ∙ q)), beside_then T ws mid after beside (rw h.1 at here).1))
         turn

@@ -1,14 +1,12 @@
 -- The phases one after the other: what the next one finds, and what all of them leave.
 -- Assumes nothing.
-use Rattle.std.specs.Prelude.{ℕ, ◌≤◌, ◌≡◌, List, length, replicate}
+use Rattle.std.specs.Prelude.{ℕ, ◌≤◌, ◌≡◌, List, length, replicate, Err}
 use Rattle.std.proofs.Common.{arith, ◌∙◌}
 use Rattle.std.proofs.Math.Path.{refl, ap}
 use Rattle.formula.specs.Satisfaction.{Interpretation}
 use Rattle.formula.specs.Passes.{Within}
-use Rattle.theory.specs.Admission.{or_else, first_refusal}
+use Rattle.theory.specs.Admission.{or_else, first_refusal, Admission, admitted}
 use Rattle.theory.specs.declared.Counts.{Counts}
-use Rattle.theory.specs.declared.Admission.{Admission}
-use Rattle.theory.specs.declared.Admission.TheVariants.{Admitted, Refused}
 use Rattle.theory.specs.declared.Refusal.{Refusal}
 use Rattle.words.specs.Sets.{member}
 use Rattle.kept.specs.Tabulate.{tabulate}
@@ -56,11 +54,11 @@ module _ (T : Tables) (ws : List ℕ) (long : used T ≤ length ws) (mid : List 
   fits : Fits T e
   fits = fits_of T ws long
 
-  pub summary_stop : (x : Refusal) → r ≡ Refused x
-      → Laid T ws (or_else (first_refusal (producer_entry T) 0 T.made) (first_refusal (root_entry T) 0 (root_count T))) (summarised T e) (Refused x) mid
+  pub summary_stop : (x : Refusal) → r ≡ Err x
+      → Laid T ws (or_else (first_refusal (producer_entry T) 0 T.made) (first_refusal (root_entry T) 0 (root_count T))) (summarised T e) (Err x) mid
   summary_stop x q = laid_stop T ws (first_refusal (producer_entry T) 0 T.made) (first_refusal (root_entry T) 0 (root_count T)) (support_laid T e) (summarised T e) r mid x h q
 
-  module _ (q : r ≡ Admitted) where
+  module _ (q : r ≡ admitted) where
     held : of_words T mid ≡ support_laid T e
     held = mid_holds T ws mid (support_laid T e) long (support_fits T e fits) (laid_holds T ws long (support_laid T e) (support_fits T e fits) mid (first_refusal (producer_entry T) 0 T.made) r h q)
 
@@ -119,11 +117,11 @@ module _ (T : Tables) (ws : List ℕ) (long : used T ≤ length ws) (words : Lis
       (ap (λ I. first_refusal (node_entry T I) 0 (node_count T)) (first_present T J w (of_words T ws).truths)) refl
       (laid_after T ws long start start_fits first begins (λ d. first_refusal (node_entry T (present d)) 0 (node_count T)) (truths_laid T) r mid h)
 
-  pub complete_stop : (x : Refusal) → r ≡ Refused x → Laid T ws (tables_admission T J) (fresh T J) (Refused x) mid
+  pub complete_stop : (x : Refusal) → r ≡ Err x → Laid T ws (tables_admission T J) (fresh T J) (Err x) mid
   unfolding tables_admission
   complete_stop x q = laid_stop T ws (first_refusal (node_entry T J) 0 (node_count T)) rest (truths_laid T start) (fresh T J) r mid x then q
 
-  module _ (q : r ≡ Admitted) where
+  module _ (q : r ≡ admitted) where
     risen : of_words T mid ≡ truths_laid T start
     risen = mid_holds T ws mid (truths_laid T start) long (truths_fit T start start_fits) (laid_holds T ws long (truths_laid T start) (truths_fit T start start_fits) mid (first_refusal (node_entry T J) 0 (node_count T)) r then q)
 

@@ -1,11 +1,10 @@
 -- Missing atoms and false roots, gathered rising: what the loops keep, and what each of their turns gives.
 -- Assumes nothing.
-use Rattle.std.specs.Prelude.{ℕ, suc, ◌<◌, ◌≤◌, ◌≡◌, Bool, cond}
+use Rattle.std.specs.Prelude.{ℕ, suc, ◌<◌, ◌≤◌, ◌≡◌, Bool, cond, Some}
 use Rattle.std.proofs.Common.{arith, ◌∙◌, ⊎_elim, lt-ltb, le-ltb}
 use Rattle.std.proofs.Math.Path.{refl, ap, sym}
 use Rattle.std.proofs.Math.Logic.{inl, inr}
 use Rattle.std.proofs.Math.Bool.{true, false}
-use Rattle.std.proofs.Math.Option.{some}
 use Rattle.std.proofs.Math.Dec.{ltb}
 use Rattle.base.specs.Tests.{below_or}
 use Rattle.base.specs.Places.{Lowest}
@@ -67,15 +66,15 @@ module _ (T : Tables) (e : Evaluation) where
         groups = fits.groups;
       }
 
-  failed_next : (p : ℕ) → p < root_count T → (b : Bool) → truth_at e (root_at T p) ≡ b → cond (truth_at e (root_at T p)) (some (failed p)) (root_turned T false p (failed p)) ≡ some (failed (suc p))
+  failed_next : (p : ℕ) → p < root_count T → (b : Bool) → truth_at e (root_at T p) ≡ b → cond (truth_at e (root_at T p)) (Some (failed p)) (root_turned T false p (failed p)) ≡ Some (failed (suc p))
   unfolding failed root_turned false_root
-  failed_next p l true q = rw q (ap (λ s. some (with_false_roots e s)) (gathered_jump is_false (root_count T) p (suc p) (omega arith) (λ j a b. none j (omega arith))))
+  failed_next p l true q = rw q (ap (λ s. Some (with_false_roots e s)) (gathered_jump is_false (root_count T) p (suc p) (omega arith) (λ j a b. none j (omega arith))))
     where
       none : (j : ℕ) → j ≡ p → is_false j ≡ false
       none j i = rw (i, q)
   failed_next p l false q =
       let is : is_false p ≡ true = rw q in
-      let next : with_member (root_count T) (counted_set (up_to is_false p) (root_count T)) p true ≡ some (counted_set (up_to is_false (suc p)) (root_count T)) =
+      let next : with_member (root_count T) (counted_set (up_to is_false p) (root_count T)) p true ≡ Some (counted_set (up_to is_false (suc p)) (root_count T)) =
       rw is at (gathered_next is_false (root_count T) p l) in
       rw (q, next)
 
@@ -116,10 +115,10 @@ module _ (T : Tables) (e : Evaluation) where
       }
 
   -- atom a lacks support
-  pub lacking_next : (a : ℕ) → a < atom_count T → lacks e a ≡ true → missing_turned T a true (lacking a) ≡ some (lacking (suc a))
+  pub lacking_next : (a : ℕ) → a < atom_count T → lacks e a ≡ true → missing_turned T a true (lacking a) ≡ Some (lacking (suc a))
   unfolding lacking missing_turned
   lacking_next a l is =
-      let next : with_member (atom_count T) (counted_set (up_to (lacks e) a) (atom_count T)) a true ≡ some (counted_set (up_to (lacks e) (suc a)) (atom_count T)) =
+      let next : with_member (atom_count T) (counted_set (up_to (lacks e) a) (atom_count T)) a true ≡ Some (counted_set (up_to (lacks e) (suc a)) (atom_count T)) =
       rw is at (gathered_next (lacks e) (atom_count T) a l) in
       rw next
 

@@ -1,11 +1,10 @@
 -- Support producer by producer: what the loop keeps, and what each of its turns gives.
 -- Assumes nothing.
-use Rattle.std.specs.Prelude.{ℕ, suc, ◌<◌, ◌≤◌, ◌+◌, ◌≡◌, Bool, ◌&&◌, List, length, replicate}
+use Rattle.std.specs.Prelude.{ℕ, suc, ◌<◌, ◌≤◌, ◌+◌, ◌≡◌, Bool, ◌&&◌, List, length, replicate, Some}
 use Rattle.std.proofs.Common.{arith, ◌∙◌, ltb-true}
 use Rattle.std.proofs.Math.Path.{refl, ap, sym}
 use Rattle.std.proofs.Math.Logic.{inl, inr}
 use Rattle.std.proofs.Math.Bool.{true, false}
-use Rattle.std.proofs.Math.Option.{some}
 use Rattle.std.proofs.Math.Dec.{ltb, leb}
 use Rattle.std.proofs.Math.ListN.{get_or}
 use Rattle.base.specs.Tests.{both_left}
@@ -62,7 +61,7 @@ module _ (T : Tables) (e : Evaluation) where
     where
       go : (b : Bool) → ltb (head_at T p) (atom_count T) && leb (body_at T p) (node_count T) ≡ b → Turn supplied (producer_entry T) (producer_counted T) (λ j. 0) p
       go true q =
-          inl (rw q, rw q (ap some (supplied_next p (ltb-true (head_at T p) (atom_count T) (both_left (ltb (head_at T p) (atom_count T)) (leb (body_at T p) (node_count T)) q)) (body_true (truth_at e) (body_at T p)) refl)))
+          inl (rw q, rw q (ap Some (supplied_next p (ltb-true (head_at T p) (atom_count T) (both_left (ltb (head_at T p) (atom_count T)) (leb (body_at T p) (node_count T)) q)) (body_true (truth_at e) (body_at T p)) refl)))
       go false q = inr (rw q, rw q)
 
 -- no count passes the number of producers

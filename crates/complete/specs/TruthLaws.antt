@@ -1,11 +1,10 @@
 -- Truth node by node: what the loop over the nodes keeps, and what each of its turns gives.
 -- Assumes nothing.
-use Rattle.std.specs.Prelude.{ℕ, suc, ◌<◌, ◌≤◌, ◌≡◌, Bool, true, eqb, get_or, set}
+use Rattle.std.specs.Prelude.{ℕ, suc, ◌<◌, ◌≤◌, ◌≡◌, Bool, true, eqb, get_or, set, Option, Some, None}
 use Rattle.std.proofs.Common.{arith, sym, ◌∙◌}
 use Rattle.std.proofs.Math.Path.{refl, ap}
 use Rattle.std.proofs.Math.Logic.{inl, inr}
 use Rattle.std.proofs.Math.Bool.{false, not}
-use Rattle.std.proofs.Math.Option.{Option, some, none}
 use Rattle.base.specs.Rising.{rising_at, rising_stays}
 use Rattle.formula.specs.Satisfaction.{Interpretation}
 use Rattle.theory.specs.Node.{node_at}
@@ -37,7 +36,7 @@ module _ (T : Tables) (J : Interpretation) (k : ℕ) (l : k < node_count T) wher
   unfolding truth lower node_truths
   lower_same o i = rising_stays false (λ v k. node_truth J T.operands v (node_at T.nodes k)) (node_count T) k o (omega arith) i
 
-  pub truth-seen : (t : Bool) → seen_by T J (truth T J) k ≡ some t → truth T J k ≡ t
+  pub truth-seen : (t : Bool) → seen_by T J (truth T J) k ≡ Some t → truth T J k ≡ t
   unfolding truth lower node_truths
   truth-seen t e =
       rising_at false (λ v k. node_truth J T.operands v (node_at T.nodes k)) (node_count T) k l
@@ -95,5 +94,5 @@ module _ (T : Tables) (e : Evaluation) where
     risen_turn k l = go (seen_by T (present e) (truth T (present e)) k) refl
       where
         go : (o : Option Bool) → seen_by T (present e) (truth T (present e)) k ≡ o → Turn risen (node_entry T (present e)) (truth_set T) (λ j. j) k
-        go none p = inr (rw p, rw (risen_seen k ∙ p))
-        go (some t) p = inl (rw p, rw (risen_seen k ∙ p) (ap some (risen_next k t l (truth-seen T (present e) k l t p))))
+        go None p = inr (rw p, rw (risen_seen k ∙ p))
+        go (Some t) p = inl (rw p, rw (risen_seen k ∙ p) (ap Some (risen_next k t l (truth-seen T (present e) k l t p))))

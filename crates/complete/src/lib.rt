@@ -84,20 +84,20 @@ fn reset(counts: Counts, candidate: &[u64], kept: &mut [u32])
 }
 
 // Node k gets a truth that was read; false if none was.
-fn lay(kept: &mut [u32], k: usize, seen: Seen) -> bool
+fn lay(kept: &mut [u32], k: usize, seen: Option<bool>) -> bool
     requires { 8 + k < length kept.old }
     ensures { Stored kept.old k (seen_of seen) result kept.new }
 {
     match seen {
-        Seen::True => {
+        Some(true) => {
             kept[8 + k] = 1;
             true
         }
-        Seen::False => {
+        Some(false) => {
             kept[8 + k] = 0;
             true
         }
-        Seen::Stray => false,
+        None => false,
     }
 }
 
@@ -118,7 +118,7 @@ fn lay_truth(counts: Counts, nodes: &[u32], operands: &[u32], kept: &mut [u32], 
             let seen = node_truth::atom_truth(counts, kept, a);
             lay(kept, k, seen)
         }
-        Node::False => lay(kept, k, Seen::False),
+        Node::False => lay(kept, k, Some(false)),
         Node::Implies(left, right) => {
             let seen = node_truth::implies_truth(kept, k, left, right);
             lay(kept, k, seen)
@@ -136,18 +136,18 @@ fn lay_truth(counts: Counts, nodes: &[u32], operands: &[u32], kept: &mut [u32], 
 }
 
 // All nodes rising.
-fn lay_truths(counts: Counts, nodes: &[u32], operands: &[u32], kept: &mut [u32]) -> Admission
+fn lay_truths(counts: Counts, nodes: &[u32], operands: &[u32], kept: &mut [u32]) -> Result<(), Refusal>
     requires { Limited counts × (3 * counts.nodes ≤ length nodes.now) × (counts.operands ≤ length operands.now) × (used_by counts ≤ length kept.old) }
     ensures { (T : Tables) → Laid (viewed counts nodes.now operands.now T) kept.old (first_refusal (node_entry (viewed counts nodes.now operands.now T) (present (of_words (viewed counts nodes.now operands.now T) kept.old))) 0 counts.nodes) (truths_laid (viewed counts nodes.now operands.now T) (of_words (viewed counts nodes.now operands.now T) kept.old)) result kept.new }
 {
     let mut k = 0;
     while k < counts.nodes {
         if !lay_truth(counts, nodes, operands, kept, k) {
-            return Admission::Refused(Refusal::BadEntry(k));
+            return Err(Refusal::BadEntry(k));
         }
         k += 1;
     }
-    Admission::Admitted
+    Ok(())
 }
 
 // By its second word, a producer has no body or a true one.
@@ -189,18 +189,18 @@ fn count_producer(counts: Counts, producers: &[u32], kept: &mut [u32], p: usize)
 }
 
 // The support of each atom, where it was zero.
-fn count_producers(counts: Counts, made: usize, producers: &[u32], kept: &mut [u32]) -> Admission
+fn count_producers(counts: Counts, made: usize, producers: &[u32], kept: &mut [u32]) -> Result<(), Refusal>
     requires { Limited counts × (made ≤ counts.roots) × (4 * counts.roots ≤ length producers.now) × (used_by counts ≤ length kept.old) × NoSupport counts kept.old }
     ensures { (T : Tables) → Laid (produced counts made producers.now T) kept.old (first_refusal (producer_entry (produced counts made producers.now T)) 0 made) (support_laid (produced counts made producers.now T) (of_words (produced counts made producers.now T) kept.old)) result kept.new }
 {
     let mut p = 0;
     while p < made {
         if !count_producer(counts, producers, kept, p) {
-            return Admission::Refused(Refusal::BadEntry(0));
+            return Err(Refusal::BadEntry(0));
         }
         p += 1;
     }
-    Admission::Admitted
+    Ok(())
 }
 
 // The atoms of word q of the candidate that have no support; all 32 are atoms.
@@ -284,18 +284,18 @@ fn lay_root(counts: Counts, roots: &[u32], kept: &mut [u32], p: usize) -> bool
 }
 
 // The false roots by position, where there was none.
-fn lay_roots(counts: Counts, roots: &[u32], kept: &mut [u32]) -> Admission
+fn lay_roots(counts: Counts, roots: &[u32], kept: &mut [u32]) -> Result<(), Refusal>
     requires { Limited counts × (counts.roots ≤ length roots.now) × (used_by counts ≤ length kept.old) × NoFalseRoots counts kept.old }
     ensures { (T : Tables) → Laid (rooted counts roots.now T) kept.old (first_refusal (root_entry (rooted counts roots.now T)) 0 counts.roots) (roots_laid (rooted counts roots.now T) (of_words (rooted counts roots.now T) kept.old)) result kept.new }
 {
     let mut p = 0;
     while p < counts.roots {
         if !lay_root(counts, roots, kept, p) {
-            return Admission::Refused(Refusal::BadEntry(0));
+            return Err(Refusal::BadEntry(0));
         }
         p += 1;
     }
-    Admission::Admitted
+    Ok(())
 }
 
 // Support, missing atoms and false roots, where there was none of them.
@@ -305,17 +305,17 @@ fn summarize(
     roots: &[u32],
     producers: &[u32],
     kept: &mut [u32],
-) -> Admission
+) -> Result<(), Refusal>
     requires limited { Limited counts × (made ≤ counts.roots) × (counts.roots ≤ length roots.now) × (4 * counts.roots ≤ length producers.now) × (used_by counts ≤ length kept.old) }
     requires no_support { NoSupport counts kept.old × NoMissing counts kept.old × NoFalseRoots counts kept.old }
     ensures { (T : Tables) → Laid (summed counts made roots.now producers.now T) kept.old (or_else (first_refusal (producer_entry (summed counts made roots.now producers.now T)) 0 made) (first_refusal (root_entry (summed counts made roots.now producers.now T)) 0 counts.roots)) (summarised (summed counts made roots.now producers.now T) (of_words (summed counts made roots.now producers.now T) kept.old)) result kept.new }
 {
     match count_producers(counts, made, producers, kept) {
-        Admission::Admitted => {
+        Ok(()) => {
             lay_missing(counts, kept);
             lay_roots(counts, roots, kept)
         }
-        Admission::Refused(r) => Admission::Refused(r),
+        Err(r) => Err(r),
     }
 }
 
@@ -329,13 +329,13 @@ pub fn complete(
     roots: &[u32],
     producers: &[u32],
     kept: &mut [u32],
-) -> Admission
+) -> Result<(), Refusal>
     requires { Limited counts × (made ≤ counts.roots) × (length candidate.now ≡ words64 counts.atoms) × (3 * counts.nodes ≤ length nodes.now) × (counts.operands ≤ length operands.now) × (counts.roots ≤ length roots.now) × (4 * counts.roots ≤ length producers.now) × (used_by counts ≤ length kept.old) × Within counts.atoms (member 64 candidate.now) }
     ensures { (T : Tables) → Laid (planned counts made nodes.now operands.now roots.now producers.now T) kept.old (tables_admission (planned counts made nodes.now operands.now roots.now producers.now T) (member 64 candidate.now)) (fresh (planned counts made nodes.now operands.now roots.now producers.now T) (member 64 candidate.now)) result kept.new }
 {
     reset(counts, candidate, kept);
     match lay_truths(counts, nodes, operands, kept) {
-        Admission::Admitted => summarize(counts, made, roots, producers, kept),
-        Admission::Refused(r) => Admission::Refused(r),
+        Ok(()) => summarize(counts, made, roots, producers, kept),
+        Err(r) => Err(r),
     }
 }

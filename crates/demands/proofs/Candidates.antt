@@ -16,10 +16,9 @@ use Rattle.base.specs.Places.{Lowest}
 use Rattle.words.specs.Sets.{member}
 use Rattle.words.specs.Next.{next}
 use Rattle.words.specs.NextLaws.{next_is}
-use Rattle.theory.specs.Admission.{all_below}
+use Rattle.theory.specs.Admission.{all_below, admitted}
 use Rattle.theory.specs.Limits.{limits_of}
 use Rattle.theory.specs.Spans.{all_below_each}
-use Rattle.theory.specs.declared.Admission.TheVariants.{Admitted}
 use Rattle.load.specs.Candidate.{candidate_words, among}
 use Rattle.load.proofs.Sets.{candidate_members}
 use Rattle.readers.specs.ReaderTable.{reader_words}
@@ -38,7 +37,7 @@ each_among P (x ∷ c) h a e = ⊎_elim (λ p. rw (eqb-true x a p) at h.0) (λ p
 
 -- what the tests before 17 ask of the tables, and of the kept words' length
 pub record Lent (T : Tables) (size : ℕ) : Type 0 where
-  pub within : limits_of T.counts ≡ Admitted
+  pub within : limits_of T.counts ≡ admitted
   pub nodes_long : 3 * node_count T ≤ length T.nodes
   pub operands_long : T.counts.operands ≤ length T.operands
   pub roots_long : root_count T ≤ length T.roots
@@ -56,7 +55,7 @@ module _ (T : Tables) (c : List ℕ) (b : all_below (atom_count T) c ≡ true) w
   unfolding atoms_of
   atoms_are = fun_ext (λ a. ap (λ ws. member 64 ws a) listed_are ∙ candidate_members (atom_count T) c a b)
 
-  stray_none : stray_bit T (candidate_of T c) ≡ Admitted
+  stray_none : stray_bit T (candidate_of T c) ≡ admitted
   unfolding stray_bit
   stray_none = rw listed_are (⊎_elim (λ l. absurd (clash l)) (λ l. rw (le-ltb (next 64 ws (atom_count T)) (64 * length ws) l)) (below_or (next 64 ws (atom_count T)) (64 * length ws)))
     where
@@ -72,11 +71,11 @@ module _ (T : Tables) (c : List ℕ) (b : all_below (atom_count T) c ≡ true) w
           let here : member 64 ws (next 64 ws (atom_count T)) ≡ true = low.here (omega arith) in
           omega (arith, each_among (λ a. a < atom_count T) c (all_below_each (atom_count T) c b) (next 64 ws (atom_count T)) (sym (candidate_members (atom_count T) c (next 64 ws (atom_count T)) b) ∙ here))
 
-  stamps_same : T.plan ≡ T.counts.stamp → stamps T (candidate_of T c) ≡ Admitted
+  stamps_same : T.plan ≡ T.counts.stamp → stamps T (candidate_of T c) ≡ admitted
   unfolding stamps candidate_of
   stamps_same e = rw (e, eq-eqb T.counts.stamp T.counts.stamp refl)
 
-  none_short : (size : ℕ) → Lent T size → first_short (buffers T (candidate_of T c) size) ≡ Admitted
+  none_short : (size : ℕ) → Lent T size → first_short (buffers T (candidate_of T c) size) ≡ admitted
   unfolding first_short candidate_of
   none_short size h =
       rw (
@@ -89,6 +88,6 @@ module _ (T : Tables) (c : List ℕ) (b : all_below (atom_count T) c ≡ true) w
         le-ltb size (listed T) h.kept_long,
       )
 
-  pub passes : (size : ℕ) → Lent T size → tests T (candidate_of T c) size ≡ Admitted
+  pub passes : (size : ℕ) → Lent T size → tests T (candidate_of T c) size ≡ admitted
   unfolding tests
   passes size h = rw (h.within, none_short size h, stamps_same h.stamp, stray_none)

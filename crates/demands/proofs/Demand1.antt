@@ -1,6 +1,7 @@
 -- DEMAND 1: "An answer or one numbered refusal comes back from every public call, for all bytes, tables and numbers lent to it; a refusal alters nothing lent, but for the work area and, after refusal 17, the kept books, which are zeroed."
 -- That every call answers and ends is its contract: none has a `requires`, and each equates answer and lent words with the outcomes named here.
 -- Assumes nothing.
+use Rattle.std.specs.Prelude.{Ok, Err}
 use Prim.Native.Nat.{ℕ, ◌<◌, ◌≤◌}
 use native.Mathlib.Omega.{arith}
 use mathlib.Core.Path.{◌≡◌, refl, sym, ap, ◌∙◌}
@@ -13,8 +14,6 @@ use lib.Seq.{take_at, drop_at}
 use borrow.Author.Tests.{leb-true, leb-false}
 use Rattle.theory.specs.Refusal.{told}
 use Rattle.theory.specs.declared.Counts.{Counts}
-use Rattle.theory.specs.declared.Admission.{Admission}
-use Rattle.theory.specs.declared.Admission.TheVariants as admission
 use Rattle.theory.specs.declared.Refusal.{Refusal}
 use Rattle.theory.specs.declared.Refusal.TheVariants.{BadKind, CutRecord, PastLimit, BadAtom, BadOperand, NoOperands, BadRoot, NotRising, ShortBuffer, UnsupportedRoot, UnsupportedBody, PositiveCycle, RankShape, RankOrder, ForeignStamp, StrayBit, BadEntry}
 use Rattle.record.specs.Contents.{Contents}
@@ -23,10 +22,8 @@ use Rattle.record.specs.declared.Summary.{Summary}
 use Rattle.encoding.specs.Sound.{Below}
 use Rattle.load.specs.Tables as load
 use Rattle.load.specs.Loading.{loading, loading_sound}
-use Rattle.load.specs.declared.Loaded.TheVariants as loads
 use Rattle.load.proofs.Loads as ways
 use Rattle.plan.specs.Outcome.{planned, plan_outcome, certify_outcome}
-use Rattle.plan.specs.declared.Planning.TheVariants as planning
 use Rattle.kept.specs.Tables.{Tables}
 use Rattle.kept.specs.Candidate.{Candidate, atoms_of}
 use Rattle.kept.specs.Layout.{of_words, listed}
@@ -48,6 +45,7 @@ use Rattle.run.specs.Run.{Running, running, run_of}
 use Rattle.demands.specs.Demand1.{Numbered, PlanLeaves, CheckLeaves, RunLeaves, Demand1}
 use Rattle.demands.specs.Told as told
 use Rattle.demands.proofs.Told as bytes
+use Rattle.theory.specs.Admission.{Admission}
 
 -- ---- numbers
 
@@ -73,7 +71,7 @@ numbered (BadEntry k) = record { place = k; more = []; tells = refl; least = ome
 
 -- ---- load
 
-sound-leaves : (s : Summary) (t : Contents) (b : load.Tables) (r : Refusal) → (loading_sound s t b).answer ≡ loads.Refused r → (loading_sound s t b).left ≡ b
+sound-leaves : (s : Summary) (t : Contents) (b : load.Tables) (r : Refusal) → (loading_sound s t b).answer ≡ Err r → (loading_sound s t b).left ≡ b
 sound-leaves s t b r e = go (ways.loads s t b)
   where
     go : ways.Loads s t b → (loading_sound s t b).left ≡ b
@@ -81,10 +79,10 @@ sound-leaves s t b r e = go (ways.loads s t b)
     go (ways.operands_short n o q) = ap (λ o. o.left) q
     go (ways.roots_short n o m q) = ap (λ o. o.left) q
     go (ways.all_long w q) =
-        let f : loads.Sound s ≡ loads.Refused r = sym (ap (λ o. o.answer) q) ∙ e in
+        let f : Ok s ≡ Err r = sym (ap (λ o. o.answer) q) ∙ e in
         let z : ◌≡◌ {A = ℕ} 0 1 = cc in absurd (omega arith)
 
-load_leaves : (f : File) (b : load.Tables) (r : Refusal) → (loading f b).answer ≡ loads.Refused r → (loading f b).left ≡ b
+load_leaves : (f : File) (b : load.Tables) (r : Refusal) → (loading f b).answer ≡ Err r → (loading f b).left ≡ b
 unfolding loading
 load_leaves (sound s t) b r e = sound-leaves s t b r e
 load_leaves (refused x) b r e = refl
@@ -93,10 +91,10 @@ load_leaves (refused x) b r e = refl
 
 plan-leaves : (t : Counts) (nodes operands roots ps rs us ws : List ℕ) (a : Admission) (ranked : List ℕ) → PlanLeaves ps rs us ws (planned t nodes operands roots ps rs us ws a ranked)
 unfolding planned
-plan-leaves t nodes operands roots ps rs us ws admission.Admitted ranked =
-    let no : (p : ℕ) (r : Refusal) → planning.Planned p ≡ planning.Refused r → ⊥ = λ p r e. let n : ◌≡◌ {A = ℕ} 0 1 = cc in omega arith in
+plan-leaves t nodes operands roots ps rs us ws (Ok u) ranked =
+    let no : (p : ℕ) (r : Refusal) → Ok p ≡ Err r → ⊥ = λ p r e. let n : ◌≡◌ {A = ℕ} 0 1 = cc in omega arith in
     record { work_zero = refl; producers_same = λ r e. absurd (no _ r e); ranks_same = λ r e. absurd (no _ r e); readers_same = λ r e. absurd (no _ r e) }
-plan-leaves t nodes operands roots ps rs us ws (admission.Refused x) ranked =
+plan-leaves t nodes operands roots ps rs us ws (Err x) ranked =
     record { work_zero = refl; producers_same = λ r e. refl; ranks_same = λ r e. refl; readers_same = λ r e. refl }
 
 -- ---- check
@@ -112,8 +110,8 @@ module _ (floor divisor : ℕ) (T : Tables) (c : Candidate) (ws : List ℕ) wher
       done (check.refused r) e = refl
 
       go : (a : Admission) → tests T c (length ws) ≡ a → (outcome_at floor divisor T c ws a).answer ≡ kept.refused (BadEntry k) → (outcome_at floor divisor T c ws a).words ≡ cleared T ws
-      go admission.Admitted q e = done (result floor divisor T (atoms_of T c) (of_words T ws)) e
-      go (admission.Refused r) q e = let z : r ≡ BadEntry k = cc in absurd (tests-not_17 T c (length ws) k (q ∙ ap admission.Refused z))
+      go (Ok u) q e = done (result floor divisor T (atoms_of T c) (of_words T ws)) e
+      go (Err r) q e = let z : r ≡ BadEntry k = cc in absurd (tests-not_17 T c (length ws) k (q ∙ ap Err z))
 
   check_leaves : CheckLeaves T ws (outcome floor divisor T c ws)
   unfolding cleared

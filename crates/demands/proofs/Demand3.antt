@@ -1,11 +1,11 @@
 -- DEMAND 3: "This holds for every series of checks of any candidates, refused ones included, by one plan that the planner made of one theory .."
 -- Assumes nothing.
+use Rattle.std.specs.Prelude.{Ok}
 use Prim.Native.Nat.{ℕ}
 use mathlib.Core.Path.{◌≡◌}
 use mathlib.Core.List.{List}
 use Rattle.theory.specs.declared.Counts.{Counts}
 use Rattle.plan.specs.Outcome.{plan_outcome, certify_outcome}
-use Rattle.plan.specs.declared.Planning.TheVariants.{Planned}
 use Rattle.kept.specs.Tables.{Tables}
 use Rattle.kept.specs.Planned.{PlannedTables}
 use Rattle.kept.proofs.Series as kept
@@ -24,9 +24,9 @@ by-planned T plan =
     }
 
 module _ (t : Counts) (nodes operands roots ps rs us ws : List ℕ) (p : ℕ) where
-  pub demand_3 : (plan_outcome t nodes operands roots ps rs us ws).answer ≡ Planned p → Demand3 (lent t nodes operands roots p (plan_outcome t nodes operands roots ps rs us ws))
+  pub demand_3 : (plan_outcome t nodes operands roots ps rs us ws).answer ≡ Ok p → Demand3 (lent t nodes operands roots p (plan_outcome t nodes operands roots ps rs us ws))
   demand_3 e = by-planned _ (plan-planned t nodes operands roots ps rs us ws p e)
 
-  pub certified_demand_3 : (proposed : List ℕ) → (certify_outcome t nodes operands roots proposed ps rs us ws).answer ≡ Planned p
+  pub certified_demand_3 : (proposed : List ℕ) → (certify_outcome t nodes operands roots proposed ps rs us ws).answer ≡ Ok p
       → Demand3 (lent t nodes operands roots p (certify_outcome t nodes operands roots proposed ps rs us ws))
   certified_demand_3 proposed e = by-planned _ (certify-planned t nodes operands roots ps rs us ws proposed p e)

@@ -1,5 +1,6 @@
 -- From the bytes of a file to Ferraris: what the text of a run tells, for every list of bytes.
 -- Assumes nothing.
+use Rattle.std.specs.Prelude.{Ok, Err}
 use Prim.Native.Nat.{ℕ, suc, ◌+◌, ◌*◌, ◌<◌, ◌≤◌}
 use native.Mathlib.Omega.{arith}
 use mathlib.Core.Path.{◌≡◌, refl, sym, ap, subst, ◌∙◌}
@@ -13,18 +14,15 @@ use Rattle.base.specs.Tests.{below_or}
 use Rattle.base.specs.Front.{front}
 use Rattle.formula.specs.Satisfaction.{Interpretation}
 use Rattle.formula.specs.Removable.{LowestRemovable}
-use Rattle.theory.specs.Admission.{all_below}
+use Rattle.theory.specs.Admission.{all_below, Admission, admitted}
 use Rattle.theory.specs.Limits.{Lent}
 use Rattle.theory.specs.NodeFormula.{theory_of}
-use Rattle.theory.specs.declared.Admission.{Admission}
-use Rattle.theory.specs.declared.Admission.TheVariants as admission
 use Rattle.theory.specs.declared.Counts.{Counts}
 use Rattle.theory.specs.declared.Refusal.{Refusal}
 use Rattle.theory.specs.declared.Refusal.TheVariants.{ShortBuffer}
 use Rattle.record.specs.Contents.{Contents}
 use Rattle.record.specs.File.{File, sound, refused, theory_file, verdict}
 use Rattle.record.specs.declared.Summary.{Summary}
-use Rattle.record.specs.declared.Judged.TheVariants as judgment
 use Rattle.encoding.specs.Value.{TheoryFile}
 use Rattle.encoding.specs.Held.{contents_of, counts_of, summary_of}
 use Rattle.encoding.specs.Sound.{Below}
@@ -38,7 +36,6 @@ use Rattle.load.specs.Tables.{over}
 use Rattle.load.specs.Loading as loading
 use Rattle.load.specs.Loading.{loading, loading_sound}
 use Rattle.load.specs.declared.Loaded as loaded
-use Rattle.load.specs.declared.Loaded.TheVariants as loads
 use Rattle.load.proofs.Loads as ways
 use Rattle.load.proofs.Admitted.{loaded_sound, loaded_plannable}
 use Rattle.load.proofs.Theory.{loaded_theory}
@@ -48,7 +45,6 @@ use Rattle.plan.specs.Buffers.{readers_length, work_length, short_buffer}
 use Rattle.plan.specs.Judged.{derived, plan_judged}
 use Rattle.plan.specs.Outcome.{plan_outcome, planned, ranks_of, lengths}
 use Rattle.plan.specs.declared.Planning as plans
-use Rattle.plan.specs.declared.Planning.TheVariants as answers
 use Rattle.kept.specs.Planned.{PlannedTables}
 use Rattle.kept.specs.Tables.{Tables, atom_count}
 use Rattle.kept.specs.Verdict.{Verdict}
@@ -89,8 +85,8 @@ plan_long t nodes operands roots ps rs us ws = go (plan_judged t nodes operands 
   where
     go : (a : Admission) → (length ps ≤ length (planned t nodes operands roots ps rs us ws a (ranks_of t nodes operands roots (derived t nodes operands roots))).producers)
         × (length us ≤ length (planned t nodes operands roots ps rs us ws a (ranks_of t nodes operands roots (derived t nodes operands roots))).readers)
-    go admission.Admitted = (front_long _ ps, built_long t nodes operands roots _ _ us)
-    go (admission.Refused r) = (omega arith, omega arith)
+    go (Ok u) = (front_long _ ps, built_long t nodes operands roots _ _ us)
+    go (Err r) = (omega arith, omega arith)
 
 -- ---- a file that encodes a sound theory
 
@@ -104,7 +100,7 @@ module _ (file : List ℕ) (f : TheoryFile) (enc : Encodes file f) where
   holds : theory_file file ≡ sound s t
   holds = sym (ap theory_file enc.bytes) ∙ read_encoded f enc.sound
 
-  sounds : verdict (theory_file file) ≡ judgment.Sound s
+  sounds : verdict (theory_file file) ≡ Ok s
   unfolding verdict
   sounds = ap verdict holds
 
@@ -114,7 +110,7 @@ module _ (file : List ℕ) (f : TheoryFile) (enc : Encodes file f) where
 
   -- ---- its theory is loaded
 
-  module _ (few : s.counts.atoms ≤ 512) (held : (loading (theory_file file) own_tables).answer ≡ loads.Sound s) where
+  module _ (few : s.counts.atoms ≤ 512) (held : (loading (theory_file file) own_tables).answer ≡ Ok s) where
     abbrev loaded_tables : tables.Tables
     loaded_tables = tables_loaded file
 
@@ -141,7 +137,7 @@ module _ (file : List ℕ) (f : TheoryFile) (enc : Encodes file f) where
     )
 
     -- no buffer of the plan is too short
-    own_long : short_buffer s.counts (lengths s.counts loaded_tables.nodes loaded_tables.operands loaded_tables.roots (replicate 2048 0) (replicate 512 0) (replicate 6658 0) (replicate 15376 0)) ≡ admission.Admitted
+    own_long : short_buffer s.counts (lengths s.counts loaded_tables.nodes loaded_tables.operands loaded_tables.roots (replicate 2048 0) (replicate 512 0) (replicate 6658 0) (replicate 15376 0)) ≡ admitted
     unfolding short_buffer
     own_long =
         rw (
@@ -155,7 +151,7 @@ module _ (file : List ℕ) (f : TheoryFile) (enc : Encodes file f) where
         )
 
     -- so its refusal is 10, 11 or 12
-    plan_unplannable : (r : Refusal) → (plan_made file s).answer ≡ answers.Refused r → Unplannable r
+    plan_unplannable : (r : Refusal) → (plan_made file s).answer ≡ Err r → Unplannable r
     unfolding own_plan
     plan_unplannable r e =
         let w = loaded_plannable file s own_tables held in
@@ -253,23 +249,23 @@ module _ (file : List ℕ) (f : TheoryFile) (enc : Encodes file f) where
 
   -- ---- whether it is
 
-  by-plan : s.counts.atoms ≤ 512 → (loading (theory_file file) own_tables).answer ≡ loads.Sound s → (a : plans.Planning) → (plan_made file s).answer ≡ a → Told file
-  by-plan few l (answers.Planned p) q = planned-told p (record { short = enc.short; sound = sounds; few_atoms = few; loaded = l; planned = q })
-  by-plan few l (answers.Refused r) q =
+  by-plan : s.counts.atoms ≤ 512 → (loading (theory_file file) own_tables).answer ≡ Ok s → (a : plans.Planning) → (plan_made file s).answer ≡ a → Told file
+  by-plan few l (Ok p) q = planned-told p (record { short = enc.short; sound = sounds; few_atoms = few; loaded = l; planned = q })
+  by-plan few l (Err r) q =
       unplanned f r enc q (plan_unplannable few l r q)
       (sym (plan_refused s.counts (tables_loaded file).nodes (tables_loaded file).operands (tables_loaded file).roots (candidates_in file) _ _ _ _ _ refl r q
       ∙ load-sound (theory_file file) s sounds few _ _ refl s l ∙ file_sound file enc.short s sounds))
 
   by-load : s.counts.atoms ≤ 512 → (a : loaded.Loaded) → (loading (theory_file file) own_tables).answer ≡ a → Told file
   unfolding loading summary_of counts_of
-  by-load few (loads.Sound x) l =
+  by-load few (Ok x) l =
       let same : s ≡ x = (loaded_own (theory_file file) s x own_tables sounds l).0 in
-      by-plan few (l ∙ ap loads.Sound (sym same)) (plan_made file s).answer refl
-  by-load few (loads.Refused r) l = go (ways.loads s t own_tables)
+      by-plan few (l ∙ ap Ok (sym same)) (plan_made file s).answer refl
+  by-load few (Err r) l = go (ways.loads s t own_tables)
     where
-      text : (k : ℕ) → loading_sound s t own_tables ≡ loading.outcome (loads.Refused (ShortBuffer k)) own_tables → text_of file ≡ refused_line (ShortBuffer k)
+      text : (k : ℕ) → loading_sound s t own_tables ≡ loading.outcome (Err (ShortBuffer k)) own_tables → text_of file ≡ refused_line (ShortBuffer k)
       text k q =
-          let same : r ≡ ShortBuffer k = let f : loads.Refused r ≡ loads.Refused (ShortBuffer k) = sym l ∙ ap (λ g. (loading g own_tables).answer) holds ∙ ap (λ o. o.answer) q in cc in
+          let same : r ≡ ShortBuffer k = let f : Err r ≡ Err (ShortBuffer k) = sym l ∙ ap (λ g. (loading g own_tables).answer) holds ∙ ap (λ o. o.answer) q in cc in
           sym (load_refused (theory_file file) s sounds few _ _ refl r l ∙ file_sound file enc.short s sounds) ∙ ap refused_line same
 
       go : ways.Loads s t own_tables → Told file
@@ -279,7 +275,7 @@ module _ (file : List ℕ) (f : TheoryFile) (enc : Encodes file f) where
       go (ways.roots_short n o m q) =
           many_roots f enc few (omega (arith, n, length-replicate {A = ℕ} 3072 0)) (omega (arith, o, length-replicate {A = ℕ} 1024 0)) (omega (arith, m, length-replicate {A = ℕ} 512 0)) (text 3 q)
       go (ways.all_long w q) =
-          let f : loads.Refused r ≡ loads.Sound s = sym l ∙ ap (λ g. (loading g own_tables).answer) holds ∙ ap (λ o. o.answer) q in
+          let f : Err r ≡ Ok s = sym l ∙ ap (λ g. (loading g own_tables).answer) holds ∙ ap (λ o. o.answer) q in
           let z : ◌≡◌ {A = ℕ} 0 1 = cc in absurd (omega arith)
 
   encoded-told : Told file

@@ -1,6 +1,6 @@
 -- What demand 1 says of every public call's outcome: a refusal alters nothing lent, but for the work area and, after 17, the kept evaluation, which are zeroed.
 -- Assumes nothing.
-use Rattle.std.specs.Prelude.{ℕ, ◌<◌, ◌≤◌, ◌≡◌, ◌↔◌, List, ◌∷◌, length, take, drop, replicate}
+use Rattle.std.specs.Prelude.{ℕ, ◌<◌, ◌≤◌, ◌≡◌, ◌↔◌, List, ◌∷◌, length, take, drop, replicate, Err}
 use Rattle.theory.specs.Refusal.{told, number_of}
 use Rattle.theory.specs.declared.Counts.{Counts}
 use Rattle.theory.specs.declared.Refusal.{Refusal}
@@ -9,10 +9,8 @@ use Rattle.record.specs.File.{File}
 use Rattle.encoding.specs.Sound.{Below}
 use Rattle.load.specs.Tables as load
 use Rattle.load.specs.Loading.{loading}
-use Rattle.load.specs.declared.Loaded.TheVariants as loads
 use Rattle.plan.specs.Outcome as plan
 use Rattle.plan.specs.Outcome.{plan_outcome, certify_outcome}
-use Rattle.plan.specs.declared.Planning.TheVariants as planned
 use Rattle.kept.specs.Tables.{Tables}
 use Rattle.kept.specs.Candidate.{Candidate}
 use Rattle.kept.specs.Layout.{listed}
@@ -35,9 +33,9 @@ pub record Numbered (r : Refusal) : Type 0 where
 pub record PlanLeaves (ps rs us ws : List ℕ) (o : plan.Outcome) : Type 0 where
   -- the work area is zero over its whole lent length after every call
   pub work_zero : o.work ≡ replicate (length ws) 0
-  pub producers_same : (r : Refusal) → o.answer ≡ planned.Refused r → o.producers ≡ ps
-  pub ranks_same : (r : Refusal) → o.answer ≡ planned.Refused r → o.ranks ≡ rs
-  pub readers_same : (r : Refusal) → o.answer ≡ planned.Refused r → o.readers ≡ us
+  pub producers_same : (r : Refusal) → o.answer ≡ Err r → o.producers ≡ ps
+  pub ranks_same : (r : Refusal) → o.answer ≡ Err r → o.ranks ≡ rs
+  pub readers_same : (r : Refusal) → o.answer ≡ Err r → o.readers ≡ us
 
 -- of a check by the tables T, lent the words ws for the kept evaluation
 pub record CheckLeaves (T : Tables) (ws : List ℕ) (o : kept.Outcome) : Type 0 where
@@ -58,7 +56,7 @@ pub record RunLeaves (file out : List ℕ) : Type 0 where
 
 pub record Demand1 : Type 0 where
   pub numbered : (r : Refusal) → Numbered r
-  pub of_load : (f : File) (b : load.Tables) (r : Refusal) → (loading f b).answer ≡ loads.Refused r → (loading f b).left ≡ b
+  pub of_load : (f : File) (b : load.Tables) (r : Refusal) → (loading f b).answer ≡ Err r → (loading f b).left ≡ b
   pub of_plan : (t : Counts) (nodes operands roots ps rs us ws : List ℕ) → PlanLeaves ps rs us ws (plan_outcome t nodes operands roots ps rs us ws)
   pub of_certify : (t : Counts) (nodes operands roots proposed ps rs us ws : List ℕ) → PlanLeaves ps rs us ws (certify_outcome t nodes operands roots proposed ps rs us ws)
   pub of_check : (floor divisor : ℕ) (T : Tables) (c : Candidate) (ws : List ℕ) → CheckLeaves T ws (outcome floor divisor T c ws)

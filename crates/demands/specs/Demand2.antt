@@ -1,10 +1,9 @@
 -- What demand 2 says of `plan`, `certify` and a check on zeroed words.
 -- Assumes nothing.
-use Rattle.std.specs.Prelude.{ℕ, ◌≡◌, ◌↔◌, List}
+use Rattle.std.specs.Prelude.{ℕ, ◌≡◌, ◌↔◌, List, Ok}
 use Rattle.theory.specs.declared.Counts.{Counts}
 use Rattle.plan.specs.Outcome as plan
 use Rattle.plan.specs.Outcome.{plan_outcome, certify_outcome}
-use Rattle.plan.specs.declared.Planning.TheVariants.{Planned}
 use Rattle.kept.specs.Candidate.{Candidate, atoms_of}
 use Rattle.kept.specs.Verdict.{Verdict}
 use Rattle.kept.specs.Decides.{DecidesTheory}
@@ -17,7 +16,7 @@ module _ (t : Counts) (nodes operands roots ps rs us ws : List ℕ) where
   -- a check by an accepted plan, on zeroed words, gives the verdict that decides the theory for its candidate
   abbrev pub VerdictDecides : plan.Outcome → Type 0
   VerdictDecides o =
-      (p : ℕ) → o.answer ≡ Planned p → (floor divisor : ℕ) (past : List ℕ) (c : Candidate) (v : Verdict) (n : ℕ)
+      (p : ℕ) → o.answer ≡ Ok p → (floor divisor : ℕ) (past : List ℕ) (c : Candidate) (v : Verdict) (n : ℕ)
       → answer_to floor divisor (lent t nodes operands roots p o) c (zeroed_words (lent t nodes operands roots p o) past) ≡ accepted v n
       → DecidesTheory t nodes operands roots (atoms_of (lent t nodes operands roots p o) c) v
 

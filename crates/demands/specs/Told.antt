@@ -1,6 +1,6 @@
 -- What the text of a run tells of a file: a refusal with its reason, or the plan's two lines and a verdict line for each candidate.
 -- Assumes nothing.
-use Rattle.std.specs.Prelude.{ℕ, ◌<◌, ◌≤◌, ◌≡◌, ◌⊎◌, ◌↔◌, true, false, List, [], ◌∷◌, ◌++◌, length, get_or, take}
+use Rattle.std.specs.Prelude.{ℕ, ◌<◌, ◌≤◌, ◌≡◌, ◌⊎◌, ◌↔◌, true, false, List, [], ◌∷◌, ◌++◌, length, get_or, take, Ok, Err}
 use Rattle.base.specs.Each.{Each}
 use Rattle.formula.specs.Formula.{of_list}
 use Rattle.formula.specs.Satisfaction.{all}
@@ -16,7 +16,6 @@ use Rattle.encoding.specs.Encoding.{encoded}
 use Rattle.encoding.specs.Held.{counts_of, summary_of}
 use Rattle.encoding.specs.Sound.{Sound}
 use Rattle.encoding.specs.Theory.{theory}
-use Rattle.plan.specs.declared.Planning.TheVariants as plan
 use Rattle.kept.specs.Verdict.{Verdict, residual}
 use Rattle.kept.specs.Layout.{flat}
 use Rattle.kept.specs.Decides.{Decides}
@@ -73,9 +72,9 @@ pub data Told (file : List ℕ) : Type 0 where
   many_roots : (f : TheoryFile) → Encodes file f → f.atoms ≤ 512 → length f.nodes ≤ 1024 → (counts_of f).operands ≤ 1024 → 512 < length f.roots
       → text_of file ≡ refused_line (ShortBuffer 3) → Told file
   -- 10, 11 or 12: the theory has no plan
-  unplanned : (f : TheoryFile) (r : Refusal) → Encodes file f → (plan_made file (summary_of f)).answer ≡ plan.Refused r → Unplannable r → text_of file ≡ refused_line r → Told file
+  unplanned : (f : TheoryFile) (r : Refusal) → Encodes file f → (plan_made file (summary_of f)).answer ≡ Err r → Unplannable r → text_of file ≡ refused_line r → Told file
   -- two lines of the plan, and one verdict line for each candidate in the file
-  judged : (f : TheoryFile) (p : ℕ) (lines : List (List ℕ)) → Encodes file f → (plan_made file (summary_of f)).answer ≡ plan.Planned p
+  judged : (f : TheoryFile) (p : ℕ) (lines : List (List ℕ)) → Encodes file f → (plan_made file (summary_of f)).answer ≡ Ok p
       → text_of file ≡ (theory_line (counts_of f) p ++ ranks_line (take f.atoms (plan_made file (summary_of f)).ranks)) ++ flat lines → length lines ≡ length f.candidates
       → ((i : ℕ) → i < length f.candidates → LineTells f i (get_or f.candidates i []) (get_or lines i []))
       → Told file

@@ -1,6 +1,6 @@
 -- The steps of a cursor over the dependencies.
 -- Assumes nothing.
-use Rattle.std.specs.Prelude.{ℕ, zero, suc, ◌+◌, ◌-◌, ◌<◌, ◌≤◌, ◌≡◌, Bool, length, get_or, drop}
+use Rattle.std.specs.Prelude.{ℕ, zero, suc, ◌+◌, ◌-◌, ◌<◌, ◌≤◌, ◌≡◌, Bool, length, get_or, drop, Option, Some, None, Result, Ok, Err}
 use Rattle.std.proofs.Common.{add-one, arith, sym, ◌∙◌, length-drop, take-suc, get_or-drop}
 use Rattle.std.proofs.Math.Path.{refl, ap}
 use Rattle.std.proofs.Math.Bool.{true, false, cond}
@@ -20,8 +20,6 @@ use Rattle.theory.specs.declared.Node.TheVariants as node
 use Rattle.theory.specs.declared.Refusal.{Refusal}
 use Rattle.compile.specs.Producer.{produced}
 use Rattle.compile.specs.declared.Producer.{Producer}
-use Rattle.compile.specs.declared.Produced.{Produced}
-use Rattle.compile.specs.declared.Produced.TheVariants.{Nothing, Made, Refused}
 use Rattle.ranks.specs.Dependency.{positive, only, operand_edges, node_edges, body_edges, produced_edges, edges_into, edges_of, dependencies}
 use Rattle.dependency.specs.Cursor.{slots, slot_edges, before, left, InRange, Moved}
 use Rattle.dependency.specs.declared.Cursor.{Cursor}
@@ -66,9 +64,9 @@ pub data Bare : Node → Type 0 where
   bare_unknown : Bare node.Unknown
 
 -- no producer is made
-pub data NotMade : Produced → Type 0 where
-  not-nothing : NotMade Nothing
-  not_refused : {r : Refusal} → NotMade (Refused r)
+pub data NotMade : Result (Option Producer) Refusal → Type 0 where
+  not-nothing : NotMade (Ok None)
+  not_refused : {r : Refusal} → NotMade (Err r)
 
 -- a node is an And or an Or with this span
 pub data Grouped : Node → ℕ → ℕ → Type 0 where
@@ -222,7 +220,7 @@ class_no classes k w p q = ne_eqb (get_or classes k 0) 1 (λ e. q (p ∙ e))
 
 -- ---- the root at hand
 
-module _ (t : Counts) (nodes operands classes roots : List ℕ) (i root : ℕ) (made : Produced) (p : root ≡ get_or roots i 0) (q : made ≡ produced nodes operands classes root) where
+module _ (t : Counts) (nodes operands classes roots : List ℕ) (i root : ℕ) (made : Result (Option Producer) Refusal) (p : root ≡ get_or roots i 0) (q : made ≡ produced nodes operands classes root) where
   root_edges : edges_of t.atoms nodes operands classes roots i ≡ produced_edges t.atoms classes made
   unfolding edges_of
   root_edges = rw (← p, ← q)
@@ -231,14 +229,14 @@ module _ (t : Counts) (nodes operands classes roots : List ℕ) (i root : ℕ) (
   unfolding produced_edges
   edges_nothing w = root_edges ∙ go made w
     where
-      go : (m : Produced) → NotMade m → produced_edges t.atoms classes m ≡ []
+      go : (m : Result (Option Producer) Refusal) → NotMade m → produced_edges t.atoms classes m ≡ []
       go m not-nothing = refl
       go m not_refused = refl
 
-  pub edges_bare : (x : Producer) → made ≡ Made x → x.body ≡ 0 → edges_of t.atoms nodes operands classes roots i ≡ []
+  pub edges_bare : (x : Producer) → made ≡ Ok (Some x) → x.body ≡ 0 → edges_of t.atoms nodes operands classes roots i ≡ []
   unfolding produced_edges body_edges
   edges_bare x e z = root_edges ∙ rw (e, z)
 
-  pub edges_body : (x : Producer) (b : ℕ) → made ≡ Made x → x.body ≡ suc b → edges_of t.atoms nodes operands classes roots i ≡ only (positive classes b) (edge (t.atoms + b) x.head)
+  pub edges_body : (x : Producer) (b : ℕ) → made ≡ Ok (Some x) → x.body ≡ suc b → edges_of t.atoms nodes operands classes roots i ≡ only (positive classes b) (edge (t.atoms + b) x.head)
   unfolding produced_edges body_edges
   edges_body x b e z = root_edges ∙ rw (e, z)

@@ -115,7 +115,7 @@ fn root_dependency(
     };
     let root = words::word(roots, c.root);
     match compile::produce(counts, nodes, operands, classes, root) {
-        Produced::Made(p) => {
+        Ok(Some(p)) => {
             if p.body == 0 {
                 return Dependency::Skip(after);
             }
@@ -126,8 +126,8 @@ fn root_dependency(
                 Dependency::Skip(after)
             }
         }
-        Produced::Nothing => Dependency::Skip(after),
-        Produced::Refused(_) => Dependency::Skip(after),
+        Ok(None) => Dependency::Skip(after),
+        Err(_) => Dependency::Skip(after),
     }
 }
 

@@ -1,12 +1,10 @@
 -- A worked example (document 01: a drawing to try), and what its user sees: the refusal of its plan, or the answers of its checks one after the other.
 -- Assumes nothing.
-use Rattle.std.specs.Prelude.{ℕ, ◌*◌, List, [], ◌∷◌, replicate}
+use Rattle.std.specs.Prelude.{ℕ, ◌*◌, List, [], ◌∷◌, replicate, Result, Ok, Err}
 use Rattle.theory.specs.declared.Counts.{Counts}
 use Rattle.theory.specs.declared.Refusal.{Refusal}
 use Rattle.plan.specs.Buffers.{readers_length, work_length}
 use Rattle.plan.specs.Outcome as plan
-use Rattle.plan.specs.declared.Planning.{Planning}
-use Rattle.plan.specs.declared.Planning.TheVariants.{Planned, Refused}
 use Rattle.kept.specs.Tables.{Tables}
 use Rattle.kept.specs.Candidate.{Candidate}
 use Rattle.kept.specs.Outcome.{Answer}
@@ -40,11 +38,11 @@ unfoldable pub candidates_of : ℕ → List ℕ → List Candidate
 candidates_of stamp [] = []
 candidates_of stamp (w ∷ ws) = record { stamp = stamp; words = w ∷ [] } ∷ candidates_of stamp ws
 
-unfoldable pub shown_by : Example → plan.Outcome → Planning → Shown
-shown_by d o (Planned p) =
+unfoldable pub shown_by : Example → plan.Outcome → Result ℕ Refusal → Shown
+shown_by d o (Ok p) =
     let T = lent d.counts d.nodes d.operands d.roots p o in
     answers (checks T (zeroed_words T []) (candidates_of d.counts.stamp d.candidates))
-shown_by d o (Refused r) = unplanned r
+shown_by d o (Err r) = unplanned r
 
 unfoldable pub shown : Example → Shown
 shown d = shown_by d (plan_of d) (plan_of d).answer

@@ -1,5 +1,6 @@
 -- A node as a record: its mark and its values.
 -- Assumes nothing.
+use Rattle.std.specs.Prelude.{Result}
 use Prim.Native.Nat.{ℕ, ◌<◌, ◌≤◌}
 use native.Mathlib.Omega.{arith}
 use mathlib.Core.Path.{◌≡◌, refl}
@@ -18,13 +19,13 @@ use Rattle.record.specs.Contents.{of_record}
 use Rattle.record.specs.declared.Cursor.{Cursor}
 use Rattle.record.specs.declared.Mark.{Mark}
 use Rattle.record.specs.declared.Mark.TheVariants as mark
-use Rattle.record.specs.declared.Step.{Step}
 use Rattle.encoding.specs.Value.{Node, Atom, False, Implies, And, Or}
 use Rattle.encoding.specs.Encoding.{node_bytes}
 use Rattle.encoding.specs.Held.{operand_entries, node_words}
 use Rattle.encoding.specs.Sound.{Below, SoundNode}
 use Rattle.encoding.proofs.Form.{numbers_in, form_of}
 use Rattle.encoding.proofs.Rest.{of_node}
+use Rattle.theory.specs.declared.Refusal.{Refusal}
 
 -- its mark
 abbrev pub mark_of : Node → Mark
@@ -101,7 +102,7 @@ node_small atoms k (Implies l r) s p q r' = (omega (arith, s.0), (omega (arith, 
 node_small atoms k (And os) s p q r = (omega arith, below_small k os (omega arith) s.1)
 node_small atoms k (Or os) s p q r = (omega arith, below_small k os (omega arith) s.1)
 
-module _ (c : Cursor) (next : Step) where
+module _ (c : Cursor) (next : Result Cursor Refusal) where
   group_passes : (os : List ℕ) → 0 < length os → Below c.counts.nodes os → judged_group c os next ≡ next
   unfolding judged_group unless
   group_passes os h b = rw (ne_eqb (length os) 0 (λ e. omega arith), each_all_below c.counts.nodes os b)

@@ -1,5 +1,6 @@
 -- Reading the bytes of sound nodes, roots and candidates from a cursor on.
 -- Assumes nothing.
+use Rattle.std.specs.Prelude.{Ok}
 use Prim.Native.Nat.{ℕ, zero, suc, ◌+◌, ◌-◌, ◌<◌, ◌≤◌}
 use native.Mathlib.Omega.{arith}
 use mathlib.Core.Path.{◌≡◌, refl, sym, ap, ◌∙◌}
@@ -24,7 +25,6 @@ use Rattle.record.specs.File.{File, read_from}
 use Rattle.record.specs.declared.Cursor.{Cursor}
 use Rattle.record.specs.declared.Mark.{Mark}
 use Rattle.record.specs.declared.Mark.TheVariants as mark
-use Rattle.record.specs.declared.Step.TheVariants.{Next}
 use Rattle.record.proofs.Judging.{read_end, read_next}
 use Rattle.encoding.specs.Value.{Node}
 use Rattle.encoding.specs.Encoding.{node_bytes, root_bytes, candidate_bytes}
@@ -43,7 +43,7 @@ pub record Passes (c : Cursor) (mark : Mark) (vs : List ℕ) : Type 0 where
   pub small : Below 4294967296 (numbers_in (counted mark) vs)
   pub many : cond (counted mark) (length vs) (arity mark) ≡ length vs
   pub limited : Limited (counts_after c.counts mark vs)
-  pub passes : (next : Cursor) → judged_values c mark vs (Next next) ≡ Next next
+  pub passes : (next : Cursor) → judged_values c mark vs (Ok next) ≡ Ok next
 
 module _ (file : List ℕ) (c : Cursor) (mark : Mark) (vs rest : List ℕ) (p : Passes c mark vs) where
   room : (turns : ℕ) → At file c.at turns (form_of mark vs ++ rest) → length file ≡ c.at + length (form_of mark vs) + length rest
@@ -53,7 +53,7 @@ module _ (file : List ℕ) (c : Cursor) (mark : Mark) (vs rest : List ℕ) (p : 
       omega (arith, length_form mark vs)
 
   next_is : (turns : ℕ) → At file c.at turns (form_of mark vs ++ rest)
-      → judged file c ≡ Next (passed c mark (counts_after c.counts mark vs) (c.at + length (form_of mark vs)))
+      → judged file c ≡ Ok (passed c mark (counts_after c.counts mark vs) (c.at + length (form_of mark vs)))
   unfolding judged judged_marked judged_whole unless
   next_is turns a =
       let s = stands file c.at c.stage mark vs rest p.ordered p.small p.many a.left in
@@ -118,7 +118,7 @@ module _ (file : List ℕ) (c : Cursor) (t : Contents) (rest : List ℕ) (goal :
             small = node_small c.counts.atoms c.counts.nodes n s l.atoms (omega (arith, l.nodes)) (omega (arith, l.operands));
             many = node_many n;
             limited = rw (node_counts c.counts n) l;
-            passes = λ next. node_passes c (Next next) n s;
+            passes = λ next. node_passes c (Ok next) n s;
           }
 
   root_read : (r : ℕ) → (c.stage ≡ 1) ⊎ (c.stage ≡ 2) → r < c.counts.nodes → Limited (more c.counts 0 0 1)

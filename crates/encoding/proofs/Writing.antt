@@ -1,5 +1,6 @@
 -- What was read from a cursor on to the end of a sound file, written again.
 -- Assumes nothing.
+use Rattle.std.specs.Prelude.{Result, Ok, Err}
 use Prim.Native.Nat.{ℕ, zero, suc, ◌+◌, ◌<◌, ◌≤◌}
 use native.Mathlib.Omega.{arith}
 use mathlib.Core.Path.{◌≡◌, refl, sym, ap, ◌∙◌}
@@ -22,8 +23,6 @@ use Rattle.record.specs.File.{sound, refused, read_from}
 use Rattle.record.specs.declared.Cursor.{Cursor}
 use Rattle.record.specs.declared.Mark.{Mark}
 use Rattle.record.specs.declared.Mark.TheVariants as mark
-use Rattle.record.specs.declared.Step.{Step}
-use Rattle.record.specs.declared.Step.TheVariants.{Next, Refused}
 use Rattle.record.specs.declared.Summary.{Summary}
 use Rattle.record.proofs.Laws.{length-numbers}
 use Rattle.record.proofs.Steps.{unless_next, end_past, Passed, next_passed, passed_fields, begun}
@@ -35,6 +34,7 @@ use Rattle.encoding.specs.Sound.{Below, SoundNode, SoundCandidate}
 use Rattle.encoding.proofs.Form.{form_of, written}
 use Rattle.encoding.proofs.NodeRecord.{mark_of, values_in, node_form, node_counts}
 use Rattle.encoding.proofs.Rest.{rest_bytes, SoundRest, node_on, root_on, candidate_on, end_on}
+use Rattle.theory.specs.declared.Refusal.{Refusal}
 
 -- ---- the values of a record that was passed
 
@@ -58,21 +58,21 @@ record Found (t : Counts) (kind : Mark) (vs : List ℕ) : Type 0 where
   pub fits : SoundNode t.atoms t.nodes node
 
 module _ (c next : Cursor) (vs : List ℕ) where
-  found_atom : length vs ≡ 1 → judged_values c mark.Atom vs (Next next) ≡ Next next → Found c.counts mark.Atom vs
+  found_atom : length vs ≡ 1 → judged_values c mark.Atom vs (Ok next) ≡ Ok next → Found c.counts mark.Atom vs
   unfolding judged_values
   found_atom h e =
       let v = one_value vs h in
       let b = rw v.1 at (all_below_each c.counts.atoms vs (unless_next _ _ _ next e).0) in
       record { node = Atom v.0; named = refl; values = sym v.1; fits = b.0 }
 
-  found_implies : length vs ≡ 2 → judged_values c mark.Implies vs (Next next) ≡ Next next → Found c.counts mark.Implies vs
+  found_implies : length vs ≡ 2 → judged_values c mark.Implies vs (Ok next) ≡ Ok next → Found c.counts mark.Implies vs
   unfolding judged_values
   found_implies h e =
       let v = two_values vs h in
       let b = rw v.2 at (all_below_each c.counts.nodes vs (unless_next _ _ _ next e).0) in
       record { node = Implies v.0 v.1; named = refl; values = sym v.2; fits = (b.0, b.1.0) }
 
-  group_fits : judged_group c vs (Next next) ≡ Next next → (0 < length vs) × Below c.counts.nodes vs
+  group_fits : judged_group c vs (Ok next) ≡ Ok next → (0 < length vs) × Below c.counts.nodes vs
   unfolding judged_group
   group_fits e =
       let some = unless_next _ _ _ next e in
@@ -80,11 +80,11 @@ module _ (c next : Cursor) (vs : List ℕ) where
       let full = eqb-false (length vs) 0 (not-true (eqb (length vs) 0) some.0) in
       (omega (arith, full), all_below_each c.counts.nodes vs below.0)
 
-  root_fits : judged_values c mark.Root vs (Next next) ≡ Next next → Below c.counts.nodes vs
+  root_fits : judged_values c mark.Root vs (Ok next) ≡ Ok next → Below c.counts.nodes vs
   unfolding judged_values
   root_fits e = all_below_each c.counts.nodes vs (unless_next _ _ _ next e).0
 
-  candidate_fits : judged_values c mark.Candidate vs (Next next) ≡ Next next → SoundCandidate c.counts.atoms vs
+  candidate_fits : judged_values c mark.Candidate vs (Ok next) ≡ Ok next → SoundCandidate c.counts.atoms vs
   unfolding judged_values
   candidate_fits e =
       let below = unless_next _ _ _ next e in
@@ -216,9 +216,9 @@ module _ (file : List ℕ) (bytes : Below 256 file) where
             (omega (arith, at-is c next _ refl p, end_past file c.at (mark_at file c.at)))
             (rw (counts_are c next _ refl p) p.limited)
 
-        go : (x : Step) → judged file c ≡ x → (next : Cursor) × Passed file c next (mark_at file c.at) (values_of file c.at (mark_at file c.at)) × Rest next
-        go (Next next) j = let p = next_passed file c next j in (next, p, past next p (sym (read_next file c t turns next h j) ∙ e))
-        go (Refused r) j = let k : refused r ≡ sound s u = sym (read-refused file c t turns r h j) ∙ e in let z : ◌≡◌ {A = ℕ} 0 1 = cc in absurd (omega arith)
+        go : (x : Result Cursor Refusal) → judged file c ≡ x → (next : Cursor) × Passed file c next (mark_at file c.at) (values_of file c.at (mark_at file c.at)) × Rest next
+        go (Ok next) j = let p = next_passed file c next j in (next, p, past next p (sym (read_next file c t turns next h j) ∙ e))
+        go (Err r) j = let k : refused r ≡ sound s u = sym (read-refused file c t turns r h j) ∙ e in let z : ◌≡◌ {A = ℕ} 0 1 = cc in absurd (omega arith)
 
     pub rest-written : (turns : ℕ) → Left turns
     rest-written zero c t e b m l = at-end c (omega arith) l

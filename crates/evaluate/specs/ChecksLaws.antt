@@ -1,6 +1,6 @@
 -- A check from the parts that calls answer and leave.
 -- Assumes nothing.
-use Rattle.std.specs.Prelude.{ℕ, suc, ◌<◌, ◌≤◌, ◌+◌, ◌-◌, ◌*◌, ◌/◌, max, true, false, List, ◌++◌, leb, length, get_or}
+use Rattle.std.specs.Prelude.{ℕ, suc, ◌<◌, ◌≤◌, ◌+◌, ◌-◌, ◌*◌, ◌/◌, max, true, false, List, ◌++◌, leb, length, get_or, Err}
 use Rattle.std.proofs.Common.{arith, ◌∙◌}
 use Rattle.std.proofs.Math.Path.{◌≡◌, ap, ap₂, sym}
 use Rattle.std.proofs.Math.ListN.{drop, replicate}
@@ -9,13 +9,11 @@ use borrow.Author.Tests.{eq-eqb, ne_eqb, lt-ltb, le-ltb, lt-leb, le-leb}
 use Rattle.formula.specs.Satisfaction.{Interpretation}
 use Rattle.formula.specs.Passes.{Within}
 use Rattle.readers.specs.ReaderTable.{reader_words}
-use Rattle.theory.specs.Admission.{or_else}
+use Rattle.theory.specs.Admission.{or_else, Admission, admitted}
 use Rattle.theory.specs.Limits.{limits_of, Limited}
 use Rattle.theory.specs.LimitsLaws.{within_limits}
 use Rattle.theory.specs.Refusals.{or_else_left}
 use Rattle.theory.specs.declared.Counts.{Counts}
-use Rattle.theory.specs.declared.Admission.{Admission}
-use Rattle.theory.specs.declared.Admission.TheVariants.{Admitted, Refused}
 use Rattle.theory.specs.declared.Refusal.{Refusal}
 use Rattle.theory.specs.declared.Refusal.TheVariants.{BadEntry}
 use Rattle.words.specs.Sets.{member}
@@ -63,7 +61,7 @@ pub record Passed (T : Tables) (c : Candidate) (size : ℕ) : Type 0 where
   pub kept_long : listed T ≤ size
   pub within : Within (atom_count T) (member 64 (listed_words T c))
 
-pub passed : (T : Tables) (c : Candidate) (size : ℕ) → Admitted ≡ tests T c size → Passed T c size
+pub passed : (T : Tables) (c : Candidate) (size : ℕ) → admitted ≡ tests T c size → Passed T c size
 unfolding tests atoms_of
 passed T c size e =
     let h = lent_long T c size (sym e) in
@@ -118,12 +116,12 @@ module _ (T : Tables) (J : Interpretation) (ws : List ℕ) where
   -- ---- fresh
 
   module _ (long : used T ≤ length ws) (r : Admission) (mid : List ℕ) (laid : Laid T ws (tables_admission T J) (evaluation.fresh T J) r mid) where
-    pub fresh_refused : (x : Refusal) → r ≡ Refused x → Results T ws (fresh_result T J (tables_admission T J)) (cases.Refused x) mid
+    pub fresh_refused : (x : Refusal) → r ≡ Err x → Results T ws (fresh_result T J (tables_admission T J)) (cases.Refused x) mid
     unfolding fresh_result
     fresh_refused x p = refused_results T ws (fresh_result T J (tables_admission T J)) x mid (rw (sym laid.0 ∙ p)) laid.2
 
     -- and the walk goes on from it, with nothing left
-    pub fresh_done : r ≡ Admitted → (c : checks.Checked) (after : List ℕ) → Results T mid (resumed T (node_count T) (walk T (suc (node_count T)) (of_words T mid))) c after
+    pub fresh_done : r ≡ admitted → (c : checks.Checked) (after : List ℕ) → Results T mid (resumed T (node_count T) (walk T (suc (node_count T)) (of_words T mid))) c after
         → Results T ws (fresh_result T J (tables_admission T J)) c after
     unfolding fresh_result
     fresh_done p c after h =
@@ -154,7 +152,7 @@ module _ (T : Tables) (J : Interpretation) (ws : List ℕ) where
 -- ---- the outcome
 
 module _ (T : Tables) (c : Candidate) (ws : List ℕ) where
-  pub outcome_refused : (r : Refusal) → Refused r ≡ tests T c (length ws) → outcome_of (cases.Refused r) ws ≡ outcome 64 8 T c ws
+  pub outcome_refused : (r : Refusal) → Err r ≡ tests T c (length ws) → outcome_of (cases.Refused r) ws ≡ outcome 64 8 T c ws
   unfolding outcome outcome_at
   outcome_refused r e = rw (sym e)
 
@@ -166,7 +164,7 @@ module _ (T : Tables) (c : Candidate) (ws : List ℕ) where
       (ap (λ n. drop n mid) split ∙ sym (drop-drop (listed T - used T) (used T) mid) ∙ ap (drop (listed T - used T)) b.behind
       ∙ drop-drop (listed T - used T) (used T) ws ∙ ap (λ n. drop n ws) (sym split))
 
-  pub outcome_checked : Admitted ≡ tests T c (length ws) → (r : checks.Checked) (mid : List ℕ) → Results T ws (result 64 8 T (member 64 (listed_words T c)) (of_words T ws)) r mid
+  pub outcome_checked : admitted ≡ tests T c (length ws) → (r : checks.Checked) (mid : List ℕ) → Results T ws (result 64 8 T (member 64 (listed_words T c)) (of_words T ws)) r mid
       → outcome_of r (settled (listed T) r mid) ≡ outcome 64 8 T c ws
   unfolding outcome outcome_at settled atoms_of
   outcome_checked e r mid h = rw (sym e) (go r (result 64 8 T (member 64 (listed_words T c)) (of_words T ws)) h)

@@ -70,8 +70,8 @@ fn fresh(
     match complete::complete(
         counts, made, candidate, nodes, operands, roots, producers, kept,
     ) {
-        Admission::Refused(r) => Checked::Refused(r),
-        Admission::Admitted => update::walk(
+        Err(r) => Checked::Refused(r),
+        Ok(()) => update::walk(
             counts,
             made,
             nodes,
@@ -189,8 +189,8 @@ pub fn check(
         kept: kept.len(),
     };
     match tests::tests(counts, plan.stamp, stamp, candidate, l) {
-        Admission::Refused(r) => Checked::Refused(r),
-        Admission::Admitted => {
+        Err(r) => Checked::Refused(r),
+        Ok(()) => {
             let words = (counts.atoms + 63) / 64;
             let checked = evaluate(
                 counts,

@@ -9,9 +9,8 @@ use Rattle.base.specs.Tests.{both}
 use Rattle.base.specs.Places.{places, count, count-split, count_agree, count_none}
 use Rattle.formula.specs.Satisfaction.{Interpretation}
 use Rattle.formula.specs.Passes.{Within}
-use Rattle.theory.specs.Admission.{first_refusal}
+use Rattle.theory.specs.Admission.{first_refusal, admitted}
 use Rattle.theory.specs.Refusals.{all_admitted}
-use Rattle.theory.specs.declared.Admission.TheVariants.{Admitted}
 use Rattle.words.specs.Changed.{unlike}
 use Rattle.words.specs.Sets.{member}
 use Rattle.kept.specs.SetOf.{words32, set_of}
@@ -57,21 +56,21 @@ changes-fresh T I J w =
     none = count_none differs (0 + A) (words32 A * 32 - A) (λ a i l. unlike_same _ (J a) (member_above I A a (omega arith) ∙ sym (outside_false A J w a (omega arith))))
 
 module _ (T : Tables) (good : Consistent T) where
-  nodes_admitted : (J : Interpretation) → first_refusal (node_entry T J) 0 (node_count T) ≡ Admitted
+  nodes_admitted : (J : Interpretation) → first_refusal (node_entry T J) 0 (node_count T) ≡ admitted
   unfolding node_entry
   nodes_admitted J = all_admitted (node_entry T J) 0 (node_count T) (λ k a b. rw (seen-sound T J (truth T J) k (good.node k (omega arith))))
 
-  producers_admitted : first_refusal (producer_entry T) 0 T.made ≡ Admitted
+  producers_admitted : first_refusal (producer_entry T) 0 T.made ≡ admitted
   unfolding producer_entry
   producers_admitted =
       all_admitted (producer_entry T) 0 T.made
       (λ p a b. rw (both (lt-ltb (head_at T p) (atom_count T) (good.head p (omega arith))) (le-leb (body_at T p) (node_count T) (good.body p (omega arith)))))
 
-  roots_admitted : first_refusal (root_entry T) 0 (root_count T) ≡ Admitted
+  roots_admitted : first_refusal (root_entry T) 0 (root_count T) ≡ admitted
   unfolding root_entry
   roots_admitted = all_admitted (root_entry T) 0 (root_count T) (λ r a b. rw (lt-ltb (root_at T r) (node_count T) (good.root r (omega arith))))
 
-  pub tables_admitted : (J : Interpretation) → tables_admission T J ≡ Admitted
+  pub tables_admitted : (J : Interpretation) → tables_admission T J ≡ admitted
   unfolding tables_admission
   tables_admitted J = rw (nodes_admitted J, producers_admitted, roots_admitted)
 

@@ -1,12 +1,11 @@
 -- Laws of a set with its count: of one given by a test, and of any.
 -- Assumes nothing.
-use Rattle.std.specs.Prelude.{ℕ, suc, ◌+◌, ◌-◌, ◌<◌, ◌≤◌, ◌≡◌, refl, Bool, true, false, not, cond}
+use Rattle.std.specs.Prelude.{ℕ, suc, ◌+◌, ◌-◌, ◌<◌, ◌≤◌, ◌≡◌, refl, Bool, true, false, not, cond, Some}
 use Rattle.std.proofs.Math.Nat.{zero-add}
 use native.Mathlib.Omega.{arith}
 use Rattle.std.proofs.Common.{ap, sym, ◌∙◌}
 use Rattle.std.proofs.Math.Path.{fun_ext}
 use Rattle.std.proofs.Math.Bool.{true≢false}
-use Rattle.std.proofs.Math.Option.{some}
 use borrow.Author.Tests.{ne_eqb, lt-ltb}
 use Rattle.base.specs.Places.{places-yes, places_no, count, count-split, count_agree, count_none, count_most}
 use Rattle.words.specs.Changed.{unlike}
@@ -73,25 +72,25 @@ unfolding with_bit
 bit-set f n i true l = set_of-inserted f n i l
 bit-set f n i false l = set_of-removed f n i l
 
-count-moved : (f : ℕ → Bool) (n i : ℕ) (x : Bool) → i < n → f i ≡ not x → moved n x (count f 0 n) ≡ some (count (updated f i x) 0 n)
+count-moved : (f : ℕ → Bool) (n i : ℕ) (x : Bool) → i < n → f i ≡ not x → moved n x (count f 0 n) ≡ Some (count (updated f i x) 0 n)
 unfolding moved
 count-moved f n i true l e =
     let more : count (updated f i true) 0 n ≡ suc (count f 0 n) =
     count_more f (updated f i true) n i l (λ j h. sym (updated_there f i true j h)) e (updated_here f i true) in
-    rw (lt-ltb (count f 0 n) n (omega (arith, count_most (updated f i true) 0 n))) (ap some (sym more))
+    rw (lt-ltb (count f 0 n) n (omega (arith, count_most (updated f i true) 0 n))) (ap Some (sym more))
 count-moved f n i false l e =
     let more : count f 0 n ≡ suc (count (updated f i false) 0 n) =
     count_more (updated f i false) f n i l (λ j h. updated_there f i false j h) (updated_here f i false) e in
     rw (more, moved)
 
-pub member-set : (f : ℕ → Bool) (n i : ℕ) (x : Bool) → i < n → with_member n (counted_set f n) i x ≡ some (counted_set (updated f i x) n)
+pub member-set : (f : ℕ → Bool) (n i : ℕ) (x : Bool) → i < n → with_member n (counted_set f n) i x ≡ Some (counted_set (updated f i x) n)
 unfolding with_member counted_set
 member-set f n i x l = rw (member_below f n i l) (go (unlike (f i) x) refl)
   where
     go : (b : Bool) → unlike (f i) x ≡ b
-        → cond b (and_then (moved n x (count f 0 n)) (λ m. some (record { members = with_bit (set_of f n) i x; size = m }))) (some (counted_set f n)) ≡ some (counted_set (updated f i x) n)
+        → cond b (and_then (moved n x (count f 0 n)) (λ m. Some (record { members = with_bit (set_of f n) i x; size = m }))) (Some (counted_set f n)) ≡ Some (counted_set (updated f i x) n)
     go true e = rw (count-moved f n i x l (unlike_true (f i) x e), bit-set f n i x l)
-    go false e = ap (λ g. some (counted_set g n)) (sym (fun_ext (updated_same f i x (unlike_false (f i) x e))))
+    go false e = ap (λ g. Some (counted_set g n)) (sym (fun_ext (updated_same f i x (unlike_false (f i) x e))))
 
 module _ (f : ℕ → Bool) (n : ℕ) where
   pub lookup_at : (i k : ℕ) → i ≤ k → k < n → f k ≡ true → ((j : ℕ) → j < k → f j ≡ false) → lookup n i (counted_set f n) ≡ at k

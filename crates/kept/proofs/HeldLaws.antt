@@ -1,11 +1,10 @@
 -- What each part of a step and of the walk's start makes of a held evaluation.
 -- Assumes nothing.
 use Prim.Native.Nat.{ℕ, ◌<◌}
-use Rattle.std.specs.Prelude.{◌≡◌, true, false, not, cond, ◌&&◌, ◌||◌, List, [], ◌∷◌, ◌++◌, get_or, set}
+use Rattle.std.specs.Prelude.{◌≡◌, true, false, not, cond, ◌&&◌, ◌||◌, List, [], ◌∷◌, ◌++◌, get_or, set, Option, Some, None}
 use Rattle.std.proofs.Math.Path.{refl, ap, ap₂}
 use Rattle.std.proofs.Common.{sym, ◌∙◌}
 use Rattle.std.proofs.Math.Bool.{Bool}
-use Rattle.std.proofs.Math.Option.{Option, some, none}
 use Rattle.std.proofs.Math.Dec.{eqb}
 use borrow.Author.Tests.{lt-ltb}
 use Rattle.readers.specs.declared.Reading.TheVariants.{Node, Producer, Root}
@@ -80,7 +79,7 @@ module _ (T : Tables) where
         ∙ tabulate_agree (node_count T) (updated (λ k. truth_word (v k)) k (truth_word x)) (λ j. truth_word (updated v k x j)) (λ j l. word_updated k x j))
 
     pub roots_held : (r : ℕ) (x : Bool) → r < root_count T
-        → and_then (with_member (root_count T) (held T v w s c f).false_roots r x) (λ m. some (with_false_roots (held T v w s c f) m)) ≡ some (held T v w s c (updated f r x))
+        → and_then (with_member (root_count T) (held T v w s c f).false_roots r x) (λ m. Some (with_false_roots (held T v w s c f) m)) ≡ Some (held T v w s c (updated f r x))
     unfolding held
     roots_held r x l = rw (member-set f (root_count T) r x l)
 
@@ -89,7 +88,7 @@ module _ (T : Tables) where
         updated_is (λ a. c a && eqb (s a) 0) (λ j. c j && eqb (updated s a n j) 0) a (c a && eqb n 0) (ap (λ x. c a && eqb x 0) (sym (updated_here s a n)))
         (λ j h. ap (λ x. c j && eqb x 0) (sym (updated_there s a n j h)))
 
-    missing_by_lem : (a n : ℕ) → a < atom_count T → missing_by T a (s a) n (held T v w s c f) ≡ some (counted_set (λ j. c j && eqb (updated s a n j) 0) (atom_count T))
+    missing_by_lem : (a n : ℕ) → a < atom_count T → missing_by T a (s a) n (held T v w s c f) ≡ Some (counted_set (λ j. c j && eqb (updated s a n j) 0) (atom_count T))
     unfolding missing_by held
     missing_by_lem a n l = go (eqb (s a) 0) (eqb n 0) refl refl
       where
@@ -100,27 +99,27 @@ module _ (T : Tables) where
         later j = c j && eqb (updated s a n j) 0
 
         turned : (x y : Bool) → x || y ≡ true → eqb n 0 ≡ y
-            → cond (x || y) (with_member (atom_count T) (counted_set lacks (atom_count T)) a (member 32 (set_of c (atom_count T)) a && y)) (some (counted_set lacks (atom_count T)))
-            ≡ some (counted_set later (atom_count T))
+            → cond (x || y) (with_member (atom_count T) (counted_set lacks (atom_count T)) a (member 32 (set_of c (atom_count T)) a && y)) (Some (counted_set lacks (atom_count T)))
+            ≡ Some (counted_set later (atom_count T))
         turned x y b q =
             rw (b, member_below c (atom_count T) a l, ← q, member-set lacks (atom_count T) a (c a && eqb n 0) l)
-            (ap some (counted_agree (updated lacks a (c a && eqb n 0)) later (atom_count T) (λ j i. missing_supported a n j)))
+            (ap Some (counted_agree (updated lacks a (c a && eqb n 0)) later (atom_count T) (λ j i. missing_supported a n j)))
 
         go : (x y : Bool) → eqb (s a) 0 ≡ x → eqb n 0 ≡ y
-            → cond (x || y) (with_member (atom_count T) (counted_set lacks (atom_count T)) a (member 32 (set_of c (atom_count T)) a && y)) (some (counted_set lacks (atom_count T)))
-            ≡ some (counted_set later (atom_count T))
+            → cond (x || y) (with_member (atom_count T) (counted_set lacks (atom_count T)) a (member 32 (set_of c (atom_count T)) a && y)) (Some (counted_set lacks (atom_count T)))
+            ≡ Some (counted_set later (atom_count T))
         go true y p q = turned true y refl q
         go false true p q = turned false true refl q
         go false false p q =
-            ap some (counted_agree lacks later (atom_count T)
+            ap Some (counted_agree lacks later (atom_count T)
             (λ j i. sym (updated_same lacks a (c a && eqb n 0) (ap (λ b. c a && b) (p ∙ sym q)) j) ∙ missing_supported a n j))
 
     pub supports-held : (a n : ℕ) → a < atom_count T
-        → and_then (missing_by T a (s a) n (held T v w s c f)) (λ m. some (with_support (held T v w s c f) (set (held T v w s c f).support a n) m))
-        ≡ some (held T v w (updated s a n) c f)
+        → and_then (missing_by T a (s a) n (held T v w s c f)) (λ m. Some (with_support (held T v w s c f) (set (held T v w s c f).support a n) m))
+        ≡ Some (held T v w (updated s a n) c f)
     unfolding held
     supports-held a n l =
-        rw (missing_by_lem a n l) (ap (λ x. some (with_support (held T v w s c f) x (counted_set (λ j. c j && eqb (updated s a n j) 0) (atom_count T)))) (tabulate-set (atom_count T) s a n))
+        rw (missing_by_lem a n l) (ap (λ x. Some (with_support (held T v w s c f) x (counted_set (λ j. c j && eqb (updated s a n j) 0) (atom_count T)))) (tabulate-set (atom_count T) s a n))
 
     missing_turned_lem : (a : ℕ) (x : Bool) (j : ℕ) → updated (λ a. c a && eqb (s a) 0) a (x && eqb (s a) 0) j ≡ updated c a x j && eqb (s j) 0
     missing_turned_lem a x =
@@ -139,21 +138,21 @@ module _ (T : Tables) where
 
     -- ---- a reader told
 
-    pub entered-held : (m : ℕ) (w' : Worklist) → with_node (node_count T) w m ≡ some w' → entered T m (held T v w s c f) ≡ some (held T v w' s c f)
+    pub entered-held : (m : ℕ) (w' : Worklist) → with_node (node_count T) w m ≡ Some w' → entered T m (held T v w s c f) ≡ Some (held T v w' s c f)
     unfolding entered held
     entered-held m w' e = rw e
 
-    pub node_told : (k m : ℕ) (t : Bool) (w' : Worklist) → k < m → m < node_count T → with_node (node_count T) w m ≡ some w'
-        → reader_updated T k t (held T v w s c f) (Node m) ≡ some (held T v w' s c f)
+    pub node_told : (k m : ℕ) (t : Bool) (w' : Worklist) → k < m → m < node_count T → with_node (node_count T) w m ≡ Some w'
+        → reader_updated T k t (held T v w s c f) (Node m) ≡ Some (held T v w' s c f)
     unfolding reader_updated
     node_told k m t w' h l e = rw (lt-ltb k m h, lt-ltb m (node_count T) l) (entered-held m w' e)
 
-    pub root_told : (k r : ℕ) (t : Bool) → r < root_count T → reader_updated T k t (held T v w s c f) (Root r) ≡ some (held T v w s c (updated f r (not t)))
+    pub root_told : (k r : ℕ) (t : Bool) → r < root_count T → reader_updated T k t (held T v w s c f) (Root r) ≡ Some (held T v w s c (updated f r (not t)))
     unfolding reader_updated root_turned
     root_told k r t h = rw (lt-ltb r (root_count T) h) (roots_held r (not t) h)
 
-    pub producer-told : (k p n : ℕ) (t : Bool) → p < T.made → head_at T p < atom_count T → moved T.made t (s (head_at T p)) ≡ some n
-        → reader_updated T k t (held T v w s c f) (Producer p) ≡ some (held T v w (updated s (head_at T p) n) c f)
+    pub producer-told : (k p n : ℕ) (t : Bool) → p < T.made → head_at T p < atom_count T → moved T.made t (s (head_at T p)) ≡ Some n
+        → reader_updated T k t (held T v w s c f) (Producer p) ≡ Some (held T v w (updated s (head_at T p) n) c f)
     unfolding reader_updated support_moved
     producer-told k p n t h l e =
         rw (lt-ltb p T.made h, lt-ltb (head_at T p) (atom_count T) l, support-held (head_at T p) l, e)
@@ -168,5 +167,5 @@ told-append T k t e (x ∷ xs) ys = go (reader_updated T k t e (reading_of x)) (
     go : (o : Option Evaluation)
         → ((d : Evaluation) → readers_updated T k t d (xs ++ ys) ≡ and_then (readers_updated T k t d xs) (λ d. readers_updated T k t d ys))
         → and_then o (λ d. readers_updated T k t d (xs ++ ys)) ≡ and_then (and_then o (λ d. readers_updated T k t d xs)) (λ d. readers_updated T k t d ys)
-    go none ih = refl
-    go (some d) ih = ih d
+    go None ih = refl
+    go (Some d) ih = ih d

@@ -2,13 +2,12 @@
 -- Assumes nothing.
 use Prim.Native.Nat.{ℕ, zero, suc, ◌<◌, ◌≤◌, ◌+◌, ◌^◌}
 use native.Mathlib.Omega.{arith}
-use Rattle.std.specs.Prelude.{◌≡◌, false, cond, ◌&&◌, ◌||◌, replicate}
+use Rattle.std.specs.Prelude.{◌≡◌, false, cond, ◌&&◌, ◌||◌, replicate, Some}
 use Rattle.std.proofs.Math.Path.{refl, ap, sym}
 use Rattle.std.proofs.Common.{◌∙◌}
 use Rattle.std.proofs.Math.Logic.{⊎_elim}
 use Rattle.std.proofs.Math.Bool.{Bool, true, not, or-false, or-true, and-false}
 use mathlib.Core.List.{List, [], ◌∷◌, ◌++◌, map, map-append}
-use Rattle.std.proofs.Math.Option.{some}
 use Rattle.std.proofs.Math.Dec.{eqb, ltb}
 use borrow.Author.Tests.{eqb-true, eqb-false, eq-eqb, ne_eqb, lt-ltb, le-ltb}
 use Rattle.base.specs.Tests.{equal_or}
@@ -41,7 +40,7 @@ occurs_lower k m (x ∷ xs) h l = go (eqb x k) refl (occurs_lower k m xs h.1) l
     go false e ih l = ih l
 
 -- one element told alone
-told_one : (T : Tables) (k : ℕ) (t : Bool) (e d : Evaluation) (x : ℕ) → reader_updated T k t e (reading_of x) ≡ some d → readers_updated T k t e (x ∷ []) ≡ some d
+told_one : (T : Tables) (k : ℕ) (t : Bool) (e d : Evaluation) (x : ℕ) → reader_updated T k t e (reading_of x) ≡ Some d → readers_updated T k t e (x ∷ []) ≡ Some d
 unfolding readers_updated
 told_one T k t e d x h = rw h
 
@@ -54,7 +53,7 @@ module _ (T : Tables) (good : Consistent T) where
   module _ (k : ℕ) (t : Bool) (v : ℕ → Bool) (s : ℕ → ℕ) (c f : ℕ → Bool) where
     -- once the readers xs are told, the worklist lists the nodes of p
     abbrev Told : Worklist → List ℕ → (ℕ → Bool) → Type 0
-    Told L xs p = (L' : Worklist) × (readers_updated T k t (held T v L s c f) xs ≡ some (held T v L' s c f)) × Lists (node_count T) p L'
+    Told L xs p = (L' : Worklist) × (readers_updated T k t (held T v L s c f) xs ≡ Some (held T v L' s c f)) × Lists (node_count T) p L'
 
     repeated_told : (w : ℕ → Bool) (L : Worklist) (m n : ℕ) → Lists (node_count T) w L → m < node_count T → (0 < n → k < m)
         → Told L (replicate n (node_reader m)) (λ j. w j || eqb j m && not (eqb n 0))
@@ -152,7 +151,7 @@ module _ (T : Tables) (good : Consistent T) where
     sum = support_up_to v u
 
     -- the support of the head of a producer with body k moves by one
-    support_moved_lem : (p : ℕ) → p < T.made → body_at T p ≡ k + 1 → moved T.made t (sum p (head_at T p)) ≡ some (sum (suc p) (head_at T p))
+    support_moved_lem : (p : ℕ) → p < T.made → body_at T p ≡ k + 1 → moved T.made t (sum p (head_at T p)) ≡ Some (sum (suc p) (head_at T p))
     unfolding support_up_to moved
     support_moved_lem p l e = go t refl
       where
@@ -165,11 +164,11 @@ module _ (T : Tables) (good : Consistent T) where
         later : counting v u (suc p) h p ≡ t
         later = counting_after v u p h ∙ rw (eq-eqb h h refl) (body_here u k (body_at T p) e ∙ updated_here v k t)
 
-        go : (b : Bool) → t ≡ b → moved T.made b (count (counting v u p h) 0 T.made) ≡ some (count (counting v u (suc p) h) 0 T.made)
+        go : (b : Bool) → t ≡ b → moved T.made b (count (counting v u p h) 0 T.made) ≡ Some (count (counting v u (suc p) h) 0 T.made)
         go true z =
             let more : count (counting v u (suc p) h) 0 T.made ≡ suc (count (counting v u p h) 0 T.made) =
             count_more (counting v u p h) (counting v u (suc p) h) T.made p l (counting_other v u p h) (before ∙ ap not z) (later ∙ z) in
-            rw (lt-ltb (count (counting v u p h) 0 T.made) T.made (omega (arith, count_most (counting v u (suc p) h) 0 T.made))) (ap some (sym more))
+            rw (lt-ltb (count (counting v u p h) 0 T.made) T.made (omega (arith, count_most (counting v u (suc p) h) 0 T.made))) (ap Some (sym more))
         go false z =
             let more : count (counting v u p h) 0 T.made ≡ suc (count (counting v u (suc p) h) 0 T.made) =
             count_more (counting v u (suc p) h) (counting v u p h) T.made p l (λ q n. sym (counting_other v u p h q n)) (later ∙ z) (before ∙ ap not z) in
@@ -179,7 +178,7 @@ module _ (T : Tables) (good : Consistent T) where
     body_is i = eqb (body_at T i) (k + 1)
 
     producers-told : (x : ℕ → Bool) (w : Worklist) (c f : ℕ → Bool) (p : ℕ) → p ≤ T.made
-        → readers_updated T k t (held T x w (sum 0) c f) (map producer_reader (places body_is 0 p)) ≡ some (held T x w (sum p) c f)
+        → readers_updated T k t (held T x w (sum 0) c f) (map producer_reader (places body_is 0 p)) ≡ Some (held T x w (sum p) c f)
     unfolding readers_updated places
     producers-told x w c f zero l = refl
     producers-told x w c f (suc p) l = go (body_is p) refl (producers-told x w c f p (omega arith))
@@ -193,8 +192,8 @@ module _ (T : Tables) (good : Consistent T) where
         apart : (a : ℕ) → (a ≡ head_at T p → ⊥) → sum p a ≡ sum (suc p) a
         apart a n = counting_idle v u p a (counting_before v u p a ∙ rw (ne_eqb (head_at T p) a (λ e. n (sym e))) (sym (counting_after v u p a ∙ rw (ne_eqb (head_at T p) a (λ e. n (sym e))))))
 
-        go : (b : Bool) → body_is p ≡ b → readers_updated T k t start (map producer_reader (places body_is 0 p)) ≡ some (held T x w (sum p) c f)
-            → readers_updated T k t start (map producer_reader (places body_is 0 (suc p))) ≡ some (held T x w (sum (suc p)) c f)
+        go : (b : Bool) → body_is p ≡ b → readers_updated T k t start (map producer_reader (places body_is 0 p)) ≡ Some (held T x w (sum p) c f)
+            → readers_updated T k t start (map producer_reader (places body_is 0 (suc p))) ≡ Some (held T x w (sum (suc p)) c f)
         go true e ih =
             ap (λ ps. readers_updated T k t start (map producer_reader ps)) (last_yes body_is p e)
             ∙ ap (readers_updated T k t start) (map-append producer_reader (places body_is 0 p) (p ∷ []))
@@ -203,10 +202,10 @@ module _ (T : Tables) (good : Consistent T) where
             ∙ told_one T k t (held T x w (sum p) c f) (held T x w (updated (sum p) (head_at T p) (sum (suc p) (head_at T p))) c f) (producer_reader p) (
             rw (packed_read 2 p (within (root_count T) p good.limited.roots (omega (arith, good.few))))
             (producer-told T x w (sum p) c f k p (sum (suc p) (head_at T p)) t (omega arith) (good.head p (omega arith)) (support_moved_lem p (omega arith) (eqb-true (body_at T p) (k + 1) e))))
-            ∙ ap some (support_agree T x w (updated (sum p) (head_at T p) (sum (suc p) (head_at T p))) (sum (suc p)) c f (λ a i. updated_is (sum p) (sum (suc p)) (head_at T p) (sum (suc p) (head_at T p)) refl apart a))
+            ∙ ap Some (support_agree T x w (updated (sum p) (head_at T p) (sum (suc p) (head_at T p))) (sum (suc p)) c f (λ a i. updated_is (sum p) (sum (suc p)) (head_at T p) (sum (suc p) (head_at T p)) refl apart a))
         go false e ih =
             ap (λ ps. readers_updated T k t start (map producer_reader ps)) (last_no body_is p e)
-            ∙ ih ∙ ap some (support_agree T x w (sum p) (sum (suc p)) c f (λ a i. other (eqb-false (body_at T p) (k + 1) e) a))
+            ∙ ih ∙ ap Some (support_agree T x w (sum p) (sum (suc p)) c f (λ a i. other (eqb-false (body_at T p) (k + 1) e) a))
 
     -- ---- the roots at k: those below r by the new truth
 
@@ -217,7 +216,7 @@ module _ (T : Tables) (good : Consistent T) where
     roots_up_to r = switched r (false_root T v) (false_root T u)
 
     roots_told : (x : ℕ → Bool) (w : Worklist) (s : ℕ → ℕ) (c : ℕ → Bool) (r : ℕ) → r ≤ root_count T
-        → readers_updated T k t (held T x w s c (roots_up_to 0)) (map root_reader (places root_is 0 r)) ≡ some (held T x w s c (roots_up_to r))
+        → readers_updated T k t (held T x w s c (roots_up_to 0)) (map root_reader (places root_is 0 r)) ≡ Some (held T x w s c (roots_up_to r))
     unfolding readers_updated places false_root
     roots_told x w s c zero l = refl
     roots_told x w s c (suc r) l = go (root_is r) refl (roots_told x w s c r (omega arith))
@@ -236,8 +235,8 @@ module _ (T : Tables) (good : Consistent T) where
         others : (j : ℕ) → (j ≡ r → ⊥) → roots_up_to r j ≡ roots_up_to (suc r) j
         others = switched_other r (false_root T v) (false_root T u)
 
-        go : (b : Bool) → root_is r ≡ b → readers_updated T k t start (map root_reader (places root_is 0 r)) ≡ some (held T x w s c (roots_up_to r))
-            → readers_updated T k t start (map root_reader (places root_is 0 (suc r))) ≡ some (held T x w s c (roots_up_to (suc r)))
+        go : (b : Bool) → root_is r ≡ b → readers_updated T k t start (map root_reader (places root_is 0 r)) ≡ Some (held T x w s c (roots_up_to r))
+            → readers_updated T k t start (map root_reader (places root_is 0 (suc r))) ≡ Some (held T x w s c (roots_up_to (suc r)))
         go true e ih =
             ap (λ rs. readers_updated T k t start (map root_reader rs)) (last_yes root_is r e)
             ∙ ap (readers_updated T k t start) (map-append root_reader (places root_is 0 r) (r ∷ []))
@@ -246,17 +245,17 @@ module _ (T : Tables) (good : Consistent T) where
             ∙ told_one T k t (held T x w s c (roots_up_to r)) (held T x w s c (updated (roots_up_to r) r (not t))) (root_reader r) (
             rw (packed_read 3 r (within (root_count T) r good.limited.roots (omega arith)))
             (root_told T x w s c (roots_up_to r) k r t (omega arith)))
-            ∙ ap some (roots_agree T x w s c (updated (roots_up_to r) r (not t)) (roots_up_to (suc r)) (λ j i. updated_is (roots_up_to r) (roots_up_to (suc r)) r (not t) (turned (eqb-true (root_at T r) k e)) others j))
+            ∙ ap Some (roots_agree T x w s c (updated (roots_up_to r) r (not t)) (roots_up_to (suc r)) (λ j i. updated_is (roots_up_to r) (roots_up_to (suc r)) r (not t) (turned (eqb-true (root_at T r) k e)) others j))
         go false e ih =
             ap (λ rs. readers_updated T k t start (map root_reader rs)) (last_no root_is r e)
             ∙ ih
-            ∙ ap some (roots_agree T x w s c (roots_up_to r) (roots_up_to (suc r)) (λ j i. ⊎_elim (λ z. rw z (same (eqb-false (root_at T r) k e))) (others j) (equal_or j r)))
+            ∙ ap Some (roots_agree T x w s c (roots_up_to r) (roots_up_to (suc r)) (λ j i. ⊎_elim (λ z. rw z (same (eqb-false (root_at T r) k e))) (others j) (equal_or j r)))
 
     -- node k has become t: its readers bring the summary along, and the nodes that read it onto the worklist
     pub readers-told : (w : ℕ → Bool) (L : Worklist) (c : ℕ → Bool) → Lists (node_count T) w L
         → (L' : Worklist)
         × (readers_updated T k t (held T (updated v k t) L (support T v) c (false_root T v)) (readers_in T k)
-        ≡ some (held T (updated v k t) L' (support T (updated v k t)) c (false_root T (updated v k t))))
+        ≡ Some (held T (updated v k t) L' (support T (updated v k t)) c (false_root T (updated v k t))))
         × Lists (node_count T) (λ j. w j || ltb j (node_count T) && among k (operands_at T j)) L'
     unfolding readers_of
     readers-told w L c x =
@@ -268,7 +267,7 @@ module _ (T : Tables) (good : Consistent T) where
               ∙ told-append T k t (held T u a.0 (sum 0) c (roots_up_to 0)) producer_list root_list
               ∙ ap (λ o. and_then o (λ d. readers_updated T k t d root_list)) (producers-told u a.0 c (roots_up_to 0) T.made (omega arith))
               ∙ roots_told u a.0 (sum T.made) c (root_count T) (omega arith)
-              ∙ ap some (finish a.0),
+              ∙ ap Some (finish a.0),
           a.2,
         )
       where

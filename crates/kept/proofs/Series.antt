@@ -1,5 +1,6 @@
 -- Demand 3, whole: every series of checks by one plan, from zeroed words.
 -- Assumes nothing.
+use Rattle.std.specs.Prelude.{Ok, Err}
 use Prim.Native.Nat.{ℕ, ◌+◌}
 use native.Mathlib.Omega.{arith}
 use mathlib.Core.Path.{◌≡◌, refl, ap, ap₂, sym, ◌∙◌}
@@ -9,8 +10,6 @@ use mathlib.Core.Option.{Option, some, none}
 use lib.ListN.{length}
 use borrow.Author.Tests.{le-leb, lt-leb}
 use Rattle.formula.specs.Passes.{Within}
-use Rattle.theory.specs.declared.Admission.{Admission}
-use Rattle.theory.specs.declared.Admission.TheVariants.{Admitted, Refused}
 use Rattle.theory.specs.declared.Refusal.{Refusal}
 use Rattle.theory.specs.declared.Refusal.TheVariants.{BadEntry}
 use Rattle.kept.specs.Tables.{Tables, atom_count, node_count}
@@ -34,6 +33,7 @@ use Rattle.kept.specs.Series.{is_accepted, zeroed_words, answer_to, series_words
 use Rattle.kept.proofs.Walk.{walk}
 use Rattle.kept.proofs.Decides.{decided}
 use Rattle.kept.proofs.Removable.{residual_removable}
+use Rattle.theory.specs.Admission.{Admission, admitted}
 
 module _ (T : Tables) (plan : PlannedTables T) where
   good : Consistent T
@@ -66,7 +66,7 @@ module _ (T : Tables) (plan : PlannedTables T) where
     zero_state = sym (zero-image T past)
 
     abbrev Passes : Candidate → Type 0
-    Passes c = tests T c size ≡ Admitted
+    Passes c = tests T c size ≡ admitted
 
     abbrev Passed : Option Candidate → Type 0
     Passed none = Unit {0}
@@ -94,7 +94,7 @@ module _ (T : Tables) (plan : PlannedTables T) where
         ∙ ap (concluded T (state o)) (result_state o c (atoms_within T c size e))
         ∙ ap (λ ws. record { answer = accepted (verdict T (atoms_of T c)) (gone o c); words = ws }) (written-image T (evaluation_of o) (fits o) (behind T past) (fresh T (atoms_of T c)))
 
-    outcome_refused : (o : Option Candidate) (c : Candidate) (r : Refusal) → tests T c size ≡ Refused r
+    outcome_refused : (o : Option Candidate) (c : Candidate) (r : Refusal) → tests T c size ≡ Err r
         → outcome floor divisor T c (state o) ≡ record { answer = refused r; words = state o }
     unfolding outcome outcome_at
     outcome_refused o c r e =
@@ -124,7 +124,7 @@ module _ (T : Tables) (plan : PlannedTables T) where
     checked o c = go (tests T c size) refl
       where
         go : (a : Admission) → tests T c size ≡ a → SeriesCheck floor divisor T (state none) o (state o) c
-        go Admitted e =
+        go (Ok u) e =
             let x = outcome-passed o c e in
             let said : answer_to floor divisor T c (state o) ≡ accepted (verdict T (atoms_of T c)) (gone o c) = ap (λ y. y.answer) x in
             record {
@@ -140,13 +140,13 @@ module _ (T : Tables) (plan : PlannedTables T) where
                   residual_removable T plan (atoms_of T c) a (rw q at (decided T plan (atoms_of T c) (atoms_within T c size e)));
               gone_over_is = λ v n z. let q : gone o c ≡ n = cc in rw q at (gone_over_lem o c (atoms_within T c size e));
             }
-        go (Refused r) e =
+        go (Err r) e =
             let x = outcome_refused o c r e in
             let said : answer_to floor divisor T c (state o) ≡ refused r = ap (λ y. y.answer) x in
             let no : (v : Verdict) (n : ℕ) → answer_to floor divisor T c (state o) ≡ accepted v n → ⊥ = λ v n z. let q : ◌≡◌ {A = ℕ} 0 1 = cc in omega arith in
             record {
               never_17 = λ k z. let q : r ≡ BadEntry k = cc in tests-not_17 T c size k (rw q at e);
-              let_pass = λ h. let q : tests T c size ≡ Admitted = sym (ap (tests T c) (length_state o)) ∙ h in cc;
+              let_pass = λ h. let q : tests T c size ≡ admitted = sym (ap (tests T c) (length_state o)) ∙ h in cc;
               unaltered = λ s z. ap (λ y. y.words) x;
               as_fresh = λ v n z. absurd (no v n z);
               decides = λ v n z. absurd (no v n z);
@@ -170,8 +170,8 @@ module _ (T : Tables) (plan : PlannedTables T) where
             × Passed (last_accepted floor divisor T x.words (cond (is_accepted x.answer) (some c) o) cs)
 
         go : (a : Admission) → tests T c size ≡ a → ((o : Option Candidate) → Passed o → Reached o o cs) → Goal (outcome floor divisor T c (state o))
-        go Admitted e ih = rw (outcome-passed o c e) (ih (some c) e)
-        go (Refused r) e ih = rw (outcome_refused o c r e) (ih o p)
+        go (Ok u) e ih = rw (outcome-passed o c e) (ih (some c) e)
+        go (Err r) e ih = rw (outcome_refused o c r e) (ih o p)
 
     anew_state : (o : Option Candidate) → Passed o → anew floor divisor T (state none) o ≡ state o
     anew_state none p = refl

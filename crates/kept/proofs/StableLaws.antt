@@ -3,7 +3,7 @@
 use Prim.Native.Nat.{ℕ, zero, suc, ◌<◌}
 use Rattle.std.proofs.Math.Numerals.{add-one}
 use Rattle.std.proofs.Common.{arith, ◌∙◌, true≢false, eqb-true, eq-eqb}
-use Rattle.std.specs.Prelude.{◌≡◌, Bool, ◌&&◌, ◌||◌, length, get_or}
+use Rattle.std.specs.Prelude.{◌≡◌, Bool, ◌&&◌, ◌||◌, length, get_or, Option, Some, None, Result, Ok, Err}
 use Rattle.std.proofs.Math.Path.{refl, ap, ap₂, sym}
 use Rattle.std.proofs.Math.Bool.{true, false, and-true}
 use mathlib.Core.List.{List, [], ◌∷◌, ◌++◌, map}
@@ -19,19 +19,18 @@ use Rattle.formula.specs.Head.{head_atom}
 use Rattle.theory.specs.NodeFormula.{formula, theory_of}
 use Rattle.theory.specs.Refusals.{not_both}
 use Rattle.theory.proofs.Meaning.{truth_at_lem}
-use Rattle.theory.specs.declared.Admission.TheVariants.{Admitted}
 use Rattle.compile.specs.Producer.{produced}
 use Rattle.compile.specs.Producers.{refused_by, made_by, producers}
 use Rattle.compile.specs.Roots.{root_of, roots_of, MadeOf, from-fact, from-rule, NothingOf, from_constraint, from_denial, made_of, nothing_of}
 use Rattle.compile.specs.declared.Producer.{Producer}
-use Rattle.compile.specs.declared.Produced.{Produced}
-use Rattle.compile.specs.declared.Produced.TheVariants.{Nothing, Made, Refused}
 use Rattle.compile.proofs.RootFormula.{root_formula_lem}
 use Rattle.kept.specs.Tables.{Tables, atom_count, root_count, root_at, body_at}
 use Rattle.kept.specs.Evaluation.{truth, body_true}
 use Rattle.kept.specs.Naming.{AllTrue, Unproduced, AllProduced}
 use Rattle.kept.specs.Planned.{classes_in, producers_in, PlannedTables}
 use Rattle.kept.specs.PlannedLaws.{no_producer, root_list, Supported, length_roots, root_listed, roots_supported_lem, well, head_is, body_is}
+use Rattle.theory.specs.Admission.{admitted}
+use Rattle.theory.specs.declared.Refusal.{Refusal}
 
 -- ---- the theory's formulas
 
@@ -93,7 +92,7 @@ module _ (T : Tables) (plan : PlannedTables T) where
   abbrev root_as : ℕ → papers.Root
   root_as k = root_of T.counts T.nodes T.operands k
 
-  abbrev makes : ℕ → Produced
+  abbrev makes : ℕ → Result (Option Producer) Refusal
   makes k = produced T.nodes T.operands (classes_in T) k
 
   -- the theory of the roots as the papers see them is the theory of the tables
@@ -122,12 +121,12 @@ module _ (T : Tables) (plan : PlannedTables T) where
 
   module _ (I : Interpretation) (a : ℕ) where
     -- of one root
-    root_counts : (k : ℕ) (made : Produced) → makes k ≡ made → refused_by made ≡ Admitted → (ps : List Producer)
+    root_counts : (k : ℕ) (made : Result (Option Producer) Refusal) → makes k ≡ made → refused_by made ≡ admitted → (ps : List Producer)
         → produces I a (root_as k) || any_counts I f a ps ≡ any_counts I f a (made_by made ++ ps)
     unfolding any_counts made_by refused_by f
-    root_counts k Nothing e s ps = rw (nothing-produces I f a (root_as k) (nothing_of T.counts T.nodes T.operands (classes_in T) k e))
-    root_counts k (Made p) e s ps = rw (made_produces I f a (classes_in T) p (root_as k) (made_of T.counts T.nodes T.operands (classes_in T) k p e))
-    root_counts k (Refused r) e s ps = absurd (not_both r s)
+    root_counts k (Ok None) e s ps = rw (nothing-produces I f a (root_as k) (nothing_of T.counts T.nodes T.operands (classes_in T) k e))
+    root_counts k (Ok (Some p)) e s ps = rw (made_produces I f a (classes_in T) p (root_as k) (made_of T.counts T.nodes T.operands (classes_in T) k p e))
+    root_counts k (Err r) e s ps = absurd (not_both r s)
 
     supported-by : (xs : List ℕ) → Each (Supported T plan) xs → supported I a (map root_as xs) ≡ any_counts I f a (producers T.nodes T.operands (classes_in T) xs)
     unfolding supported any_counts producers

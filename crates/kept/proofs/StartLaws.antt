@@ -2,12 +2,11 @@
 -- Assumes nothing.
 use Prim.Native.Nat.{ℕ, zero, suc, ◌<◌, ◌≤◌, ◌-◌, ◌*◌}
 use Rattle.std.proofs.Common.{arith, zero-add, ◌∙◌}
-use Rattle.std.specs.Prelude.{◌≡◌, Bool, ◌&&◌, ◌||◌, ltb}
+use Rattle.std.specs.Prelude.{◌≡◌, Bool, ◌&&◌, ◌||◌, ltb, Option, Some, None}
 use Rattle.std.proofs.Math.Path.{refl, ap, sym}
 use Rattle.std.proofs.Math.Logic.{⊎_elim}
 use Rattle.std.proofs.Math.Bool.{true, false, cond, or-false, or-true, and-false}
 use mathlib.Core.List.{List, [], ◌∷◌, ◌++◌}
-use Rattle.std.proofs.Math.Option.{Option, some, none}
 use Rattle.std.proofs.Math.ListN.{length}
 use borrow.Author.Tests.{eq-eqb, ne_eqb, lt-ltb, le-ltb}
 use Rattle.base.specs.Tests.{equal_or, and-true}
@@ -41,12 +40,12 @@ use Rattle.kept.proofs.WalkLaws.{midway_start, waits_start, walk_midway}
 pub entered-append : (T : Tables) (e : Evaluation) (xs ys : List ℕ) → all_entered T e (xs ++ ys) ≡ and_then (all_entered T e xs) (λ d. all_entered T d ys)
 unfolding all_entered
 entered-append T e [] ys = refl
-entered-append T e (x ∷ xs) ys = go (cond (ltb x (node_count T)) (entered T x e) none) (λ d. entered-append T d xs ys)
+entered-append T e (x ∷ xs) ys = go (cond (ltb x (node_count T)) (entered T x e) None) (λ d. entered-append T d xs ys)
   where
     go : (o : Option Evaluation) → ((d : Evaluation) → all_entered T d (xs ++ ys) ≡ and_then (all_entered T d xs) (λ d. all_entered T d ys))
         → and_then o (λ d. all_entered T d (xs ++ ys)) ≡ and_then (and_then o (λ d. all_entered T d xs)) (λ d. all_entered T d ys)
-    go none ih = refl
-    go (some d) ih = ih d
+    go None ih = refl
+    go (Some d) ih = ih d
 
 module _ (T : Tables) where
   -- the atom nodes of a, entered one after the other
@@ -59,7 +58,7 @@ module _ (T : Tables) where
 
     -- once the nodes ks have entered, the worklist lists the nodes of p
     abbrev Entered : Worklist → List ℕ → (ℕ → Bool) → Type 0
-    Entered L ks p = (L' : Worklist) × (all_entered T (held T v L s c f) ks ≡ some (held T v L' s c f)) × Lists (node_count T) p L'
+    Entered L ks p = (L' : Worklist) × (all_entered T (held T v L s c f) ks ≡ Some (held T v L' s c f)) × Lists (node_count T) p L'
 
     one_entered : (L : Worklist) (n : ℕ) → Lists (node_count T) (with_nodes n) L → n < node_count T → Entered L (n ∷ []) (updated (with_nodes n) n true)
     unfolding all_entered
@@ -178,14 +177,14 @@ module _ (T : Tables) where
         present-held T (truth T I) L (support T (truth T I)) (switched a I J) (false_root T (truth T I)) a l ∙ switched-from a I J a (omega arith)
 
     module _ (a : ℕ) (L : Worklist) (x : Waits a L) where
-      turned : a < atom_count T → unlike (I a) (J a) ≡ true → (L' : Worklist) × (atom_turned T J a (turning a L) ≡ some (turning (suc a) L')) × Waits (suc a) L'
+      turned : a < atom_count T → unlike (I a) (J a) ≡ true → (L' : Worklist) × (atom_turned T J a (turning a L) ≡ Some (turning (suc a) L')) × Waits (suc a) L'
       unfolding atom_turned turning waits
       turned l e =
           let c = updated (switched a I J) a (J a) in
           let r = atom_nodes_entered (truth T I) (support T (truth T I)) c (false_root T (truth T I)) (waits a) a L x in (
             r.0,
             candidate-held T (truth T I) L (support T (truth T I)) (switched a I J) (false_root T (truth T I)) (λ d. and_then (atom_nodes_at T a) (all_entered T d)) a (J a) l
-                ∙ rw (good.atom_nodes a l, r.1) (ap some (turning_is a r.0 c (switched_next a I J))),
+                ∙ rw (good.atom_nodes a l, r.1) (ap Some (turning_is a r.0 c (switched_next a I J))),
             lists_agree (node_count T) (λ j. waits a j || is_atom_of a (node_at T.nodes j)) (waits (suc a)) r.0 (λ j i. changed_next a true e (node_at T.nodes j)) r.2,
           )
 
@@ -197,16 +196,16 @@ module _ (T : Tables) where
         lists_agree (node_count T) (waits a) (waits (suc a)) L (λ j i. sym (or-false (waits a j)) ∙ changed_next a false e (node_at T.nodes j)) x,
       )
 
-      updated_turning : a < atom_count T → (L' : Worklist) × (atom_updated T J a (turning a L) ≡ some (turning (suc a) L')) × Waits (suc a) L'
+      updated_turning : a < atom_count T → (L' : Worklist) × (atom_updated T J a (turning a L) ≡ Some (turning (suc a) L')) × Waits (suc a) L'
       unfolding atom_updated
       updated_turning l = rw (present-turning a L l) (go (unlike (I a) (J a)) refl)
         where
           go : (b : Bool) → unlike (I a) (J a) ≡ b
-              → (L' : Worklist) × (cond b (atom_turned T J a (turning a L)) (some (turning a L)) ≡ some (turning (suc a) L')) × Waits (suc a) L'
+              → (L' : Worklist) × (cond b (atom_turned T J a (turning a L)) (Some (turning a L)) ≡ Some (turning (suc a) L')) × Waits (suc a) L'
           go true e = turned l e
-          go false e = let r = unturned e in (L, ap some r.0, r.1)
+          go false e = let r = unturned e in (L, ap Some r.0, r.1)
 
-    start_turning : (a : ℕ) (L : Worklist) → Waits 0 L → a ≤ atom_count T → (L' : Worklist) × (walk_start T J a (turning 0 L) ≡ some (turning a L')) × Waits a L'
+    start_turning : (a : ℕ) (L : Worklist) → Waits 0 L → a ≤ atom_count T → (L' : Worklist) × (walk_start T J a (turning 0 L) ≡ Some (turning a L')) × Waits a L'
     unfolding walk_start
     start_turning zero L x l = (L, refl, x)
     start_turning (suc a) L x l =
@@ -236,15 +235,15 @@ module _ (T : Tables) where
     all_waits L x = lists_agree (node_count T) (waits (atom_count T)) (touched T I J) L (λ j i. changed_all (node_at T.nodes j) (λ a e. atom_lower T j a (good.node j i) e)) x
 
     -- the walk begins with the new candidate and its missing atoms, and the atom nodes of the changed atoms on the worklist
-    pub start_fresh : (L : Worklist) × Lists (node_count T) (touched T I J) L × (walk_start T J (atom_count T) (fresh T I) ≡ some (summary T (truth T I) L J))
+    pub start_fresh : (L : Worklist) × Lists (node_count T) (touched T I J) L × (walk_start T J (atom_count T) (fresh T I) ≡ Some (summary T (truth T I) L J))
     start_fresh =
         let r = start_turning (atom_count T) (worklist_of (λ k. false) (node_count T)) fresh_waits (omega arith) in
-        (r.0, all_waits r.0 r.2, ap (walk_start T J (atom_count T)) turning-fresh ∙ r.1 ∙ ap some (turning_all r.0))
+        (r.0, all_waits r.0 r.2, ap (walk_start T J (atom_count T)) turning-fresh ∙ r.1 ∙ ap Some (turning_all r.0))
 
     -- a fresh evaluation's candidate has atoms alone
     no_stray : ltb (next 32 (fresh T I).candidate (atom_count T)) (32 * length (fresh T I).candidate) ≡ false
     unfolding fresh summary held next
-    no_stray = le-ltb (lowest (member 32 ws) (atom_count T) (32 * length ws - atom_count T)) (32 * length ws) (omega (arith, none))
+    no_stray = le-ltb (lowest (member 32 ws) (atom_count T) (32 * length ws - atom_count T)) (32 * length ws) (omega (arith, None))
       where
         ws : List ℕ
         ws = set_of I (atom_count T)
@@ -252,8 +251,8 @@ module _ (T : Tables) where
         room : atom_count T ≤ 32 * length ws
         room = rw (length-set_of I (atom_count T)) (omega arith)
 
-        none : 32 * length ws ≡ lowest (member 32 ws) (atom_count T) (32 * length ws - atom_count T)
-        none = lowest-only (member 32 ws) (atom_count T) (32 * length ws - atom_count T) (32 * length ws) (record {
+        None : 32 * length ws ≡ lowest (member 32 ws) (atom_count T) (32 * length ws - atom_count T)
+        None = lowest-only (member 32 ws) (atom_count T) (32 * length ws - atom_count T) (32 * length ws) (record {
           from = room;
           within = omega arith;
           before = λ k a b. member_above I (atom_count T) k a;
@@ -266,5 +265,5 @@ module _ (T : Tables) where
     kept_fresh =
         let r = start_fresh in
         ap (λ b. cond b (broken 0) (walk_from T (walk_start T J (atom_count T) (fresh T I)))) no_stray
-        ∙ ap (walk_from T) (r.2 ∙ ap some (midway_start T good I J r.0))
+        ∙ ap (walk_from T) (r.2 ∙ ap Some (midway_start T good I J r.0))
         ∙ walk_midway T good I J (node_count T) 0 (suc (node_count T)) r.0 (waits_start T good I J r.0 r.1) (zero-add (node_count T)) (omega arith)

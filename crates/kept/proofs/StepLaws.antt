@@ -1,10 +1,9 @@
 -- One step on an evaluation that summarises its truths.
 -- Assumes nothing.
-use Rattle.std.specs.Prelude.{ℕ, ◌<◌, ◌≡◌, Bool, not, ◌&&◌, ◌||◌, List}
+use Rattle.std.specs.Prelude.{ℕ, ◌<◌, ◌≡◌, Bool, not, ◌&&◌, ◌||◌, List, Some}
 use Rattle.std.proofs.Common.{arith, ap₂, ◌∙◌, lt-ltb}
 use Rattle.std.proofs.Math.Path.{refl, ap, sym, fun_ext}
 use Rattle.std.proofs.Math.Bool.{true, false, or-false}
-use Rattle.std.proofs.Math.Option.{some}
 use Rattle.std.proofs.Math.Dec.{ltb}
 use Rattle.base.specs.Each.{Each, each_map, map_agree}
 use Rattle.base.specs.Rising.{rising_step}
@@ -58,11 +57,11 @@ module _ (T : Tables) (good : Consistent T) (v w c : ℕ → Bool) (L : Worklist
   start = held T v L (support T v) c (false_root T v)
 
   -- what the evaluation shows of a node is its truth by the functions it holds
-  seen-held : (k : ℕ) → k < node_count T → seen T start k ≡ some (truth_by T c v k)
+  seen-held : (k : ℕ) → k < node_count T → seen T start k ≡ Some (truth_by T c v k)
   unfolding seen
   seen-held k l =
       seen-sound T (present start) (truth_at start) k (good.node k l)
-      ∙ ap some (truth_agree T (present start) c (truth_at start) v k
+      ∙ ap Some (truth_agree T (present start) c (truth_at start) v k
       (λ a i. present-held T v L (support T v) c (false_root T v) a (atom_lower T k a (good.node k l) i))
       (each_map (λ o. o < k) (λ o. truth_at start o ≡ v o) (operands_at T k) (λ o i. truth-held T v L (support T v) c (false_root T v) o (omega arith)) (operands_lower T k (good.node k l))))
 

@@ -1,10 +1,9 @@
 -- The verdict on a candidate names what demand 2 says; a fresh evaluation tells it.
 -- Assumes nothing.
-use Rattle.std.specs.Prelude.{ℕ, ◌<◌, ◌≤◌, ◌≡◌, Bool, cond, ◌&&◌, eqb, ltb}
+use Rattle.std.specs.Prelude.{ℕ, ◌<◌, ◌≤◌, ◌≡◌, Bool, cond, ◌&&◌, eqb, ltb, Some}
 use Rattle.std.proofs.Common.{arith, ap, sym, ◌∙◌, ⊎_elim, true≢false}
 use Rattle.std.proofs.Math.Path.{refl, ap₂}
 use Rattle.std.proofs.Math.Bool.{true, false}
-use Rattle.std.proofs.Math.Option.{some}
 use borrow.Author.Tests.{eqb-true, eq-eqb, not-true, not-false, ltb-true, lt-ltb, le-ltb}
 use Rattle.base.specs.Tests.{both, both_left, both_right, below_or}
 use Rattle.base.specs.Places.{lowest, lowest_is, lowest-only, Lowest, count_none}
@@ -87,14 +86,14 @@ module _ (T : Tables) (I : Interpretation) where
   wrong = false_root T (truth T I)
 
   judged_found : (b c : Bool) (r a : ℕ) → (b ≡ true → root_at T r < node_count T)
-      → judged T (cond b (at r) empty) (cond c (at a) empty) ≡ some (cond b (not_model (root_at T r)) (cond c (residual a) stable))
+      → judged T (cond b (at r) empty) (cond c (at a) empty) ≡ Some (cond b (not_model (root_at T r)) (cond c (residual a) stable))
   unfolding judged
   judged_found true c r a l = rw (lt-ltb (root_at T r) (node_count T) (l refl))
   judged_found false true r a l = refl
   judged_found false false r a l = refl
 
   -- a fresh evaluation tells it, if every root is a node
-  pub verdict-fresh : ((r : ℕ) → r < root_count T → root_at T r < node_count T) → verdict_of T (fresh T I) ≡ some (verdict T I)
+  pub verdict-fresh : ((r : ℕ) → r < root_count T → root_at T r < node_count T) → verdict_of T (fresh T I) ≡ Some (verdict T I)
   unfolding verdict_of fresh summary held verdict missing_atom
   verdict-fresh within =
       ap₂ (judged T) (lookup-lowest wrong (root_count T)) (lookup-lowest (missing_atom T I) (atom_count T))

@@ -1,11 +1,10 @@
 -- Laws of the worklist of a test: a node enters it, its first node leaves.
 -- Assumes nothing.
-use Rattle.std.specs.Prelude.{ℕ, ◌+◌, ◌-◌, ◌*◌, ◌/◌, ◌<◌, ◌≤◌, ◌≡◌, Bool, not, ◌&&◌, List, get_or}
+use Rattle.std.specs.Prelude.{ℕ, ◌+◌, ◌-◌, ◌*◌, ◌/◌, ◌<◌, ◌≤◌, ◌≡◌, Bool, not, ◌&&◌, List, get_or, Some}
 use Rattle.std.proofs.Common.{arith, sym, ◌∙◌, subst}
 use Rattle.std.proofs.Math.Path.{refl, ap, ap₂, fun_ext}
 use Rattle.std.proofs.Math.Logic.{⊎_elim}
 use Rattle.std.proofs.Math.Bool.{true, false, cond, and-false, true≢false}
-use Rattle.std.proofs.Math.Option.{some}
 use Rattle.std.proofs.Math.Arith.{digits_div, digits_mod}
 use Rattle.std.specs.Int.Count.{count_trailing_zeros}
 use Rattle.std.proofs.Math.Dec.{eqb, ltb}
@@ -134,7 +133,7 @@ module _ (r : ℕ → Bool) (n m : ℕ) (l : m < n) where
           ∙ filled-changed false true (sym p)
       go false p = set_of-removed (filled (set_of r n)) n (m / 32) (omega arith) ∙ filled-changed false false (sym p)
 
-  behind-set : (f a s : ℕ) → behind n (listed f a s r n) m ≡ some (listed f a s (updated r m true) n)
+  behind-set : (f a s : ℕ) → behind n (listed f a s r n) m ≡ Some (listed f a s (updated r m true) n)
   unfolding behind listed
   behind-set f a s = rw (member-set r n m true l, groups_in)
 
@@ -248,7 +247,7 @@ module _ (w : ℕ → Bool) (n m f : ℕ) (r : ℕ → Bool) (l : m < n) (lf : L
       enters_first a s r b (λ j i. hr j ∙ rw (lf.before j (omega arith) (omega arith))) (λ y. absurd (omega (arith, x.2 (x.1 c)))) x.2
 
   abbrev Entered : ℕ → ℕ → Type 0
-  Entered a s = (L : Worklist) × (with_node n (listed f a s r n) m ≡ some L) × Lists n (updated w m true) L
+  Entered a s = (L : Worklist) × (with_node n (listed f a s r n) m ≡ Some L) × Lists n (updated w m true) L
 
   enters : (a s : ℕ) → Remembers n f a s r → Entered a s
   unfolding with_node alone before listed
@@ -277,7 +276,7 @@ module _ (w : ℕ → Bool) (n m f : ℕ) (r : ℕ → Bool) (l : m < n) (lf : L
       past : m ≤ f → Entered a s
       past b = ⊎_elim same (λ ne. lower (omega (arith, ne))) (equal_or m f)
 
-pub node_entered : (w : ℕ → Bool) (n m : ℕ) (L : Worklist) → Lists n w L → m < n → (L' : Worklist) × (with_node n L m ≡ some L') × Lists n (updated w m true) L'
+pub node_entered : (w : ℕ → Bool) (n m : ℕ) (L : Worklist) → Lists n w L → m < n → (L' : Worklist) × (with_node n L m ≡ Some L') × Lists n (updated w m true) L'
 unfolding worklist_of but_lowest listed
 node_entered w n m L x l =
     let e = enters w n m (lowest w 0 n) (but_lowest w n) l (lowest_is w 0 n) (λ j. refl) L.far L.far_size x.remembers in
@@ -287,7 +286,7 @@ node_entered w n m L x l =
 
 module _ (r : ℕ → Bool) (n k g a s : ℕ) (h : (j : ℕ) → j ≤ k → r j ≡ false) (lg : Lowest r 0 n g) (x : Remembers n k a s r) where
   abbrev Left : Type 0
-  Left = (L : Worklist) × (without_first n (listed k a s r n) ≡ some L) × Lists n r L
+  Left = (L : Worklist) × (without_first n (listed k a s r n) ≡ Some L) × Lists n r L
 
   forgot : forgotten (listed n a s r n) ≡ listed n 0 0 r n
   unfolding forgotten listed
@@ -302,7 +301,7 @@ module _ (r : ℕ → Bool) (n k g a s : ℕ) (h : (j : ℕ) → j ≤ k → r j
   unfolding without_first listed counted_set worklist_of
   last_leaves z = (
     worklist_of r n,
-    rw (eq-eqb (count r 0 n) 0 z) (ap some (forgot ∙ listed_is r n n 0 0 r (lowest_none r n (count-zero r n z)) (λ j i. rw (count-zero r n z j i)))),
+    rw (eq-eqb (count r 0 n) 0 z) (ap Some (forgot ∙ listed_is r n n 0 0 r (lowest_none r n (count-zero r n z)) (λ j i. rw (count-zero r n z j i)))),
     lists_of n r,
   )
 
@@ -370,7 +369,7 @@ module _ (r : ℕ → Bool) (n k g a s : ℕ) (h : (j : ℕ) → j ≤ k → r j
     next_leaves = (
       listed g a s (updated r g false) n,
       rw (ne_eqb (count r 0 n) 0 (λ z. true≢false (sym here ∙ count-zero r n z g c)), next_filled_lem, next_node)
-          (rw (lt-ltb (g / 32) (words32 n) (omega arith), filled_here r n g c r here, lt-ltb k g b) (ap some advanced_is)),
+          (rw (lt-ltb (g / 32) (words32 n) (omega arith), filled_here r n g c r here, lt-ltb k g b) (ap Some advanced_is)),
       lists_is r n g a s (updated r g false) lg (λ j i. without r g j) (
         ahead_more n k g a s r (updated r g false) (λ y. omega arith) (λ y j i e. updated_there r g false j (λ z. omega arith) ∙ e) x.0,
         λ y. absurd (omega arith),
@@ -385,7 +384,7 @@ module _ (r : ℕ → Bool) (n k g a s : ℕ) (h : (j : ℕ) → j ≤ k → r j
       found c = ⊎_elim (λ b. next_leaves b c) (λ b. absurd (true≢false (sym (lg.here (omega arith)) ∙ h g b))) (below_or k g)
 
 pub first_left : (w : ℕ → Bool) (n k : ℕ) (L : Worklist) → Lists n w L → k < n → w k ≡ true → ((j : ℕ) → j < k → w j ≡ false)
-    → (L' : Worklist) × (without_first n L ≡ some L') × Lists n (updated w k false) L'
+    → (L' : Worklist) × (without_first n L ≡ Some L') × Lists n (updated w k false) L'
 unfolding but_lowest
 first_left w n k L x l e h =
     let at : Lowest w 0 n k = lowest_at w n k l e h in

@@ -1,12 +1,9 @@
 -- A check on an evaluation as a value: kept if it holds a check of this stamp and few atoms changed, else fresh.
 -- Assumes nothing.
-use Rattle.std.specs.Prelude.{ℕ, max, ◌*◌, ◌/◌, Bool, cond, ◌&&◌, eqb, ltb, leb, length}
-use Rattle.std.proofs.Math.Option.{Option, some, none}
+use Rattle.std.specs.Prelude.{ℕ, max, ◌*◌, ◌/◌, Bool, cond, ◌&&◌, eqb, ltb, leb, length, Option, Some, None, Ok, Err}
 use Rattle.base.specs.Places.{count}
 use Rattle.formula.specs.Satisfaction.{Interpretation}
-use Rattle.theory.specs.Admission.{or_else, first_refusal}
-use Rattle.theory.specs.declared.Admission.{Admission}
-use Rattle.theory.specs.declared.Admission.TheVariants.{Admitted, Refused}
+use Rattle.theory.specs.Admission.{or_else, first_refusal, Admission, admitted}
 use Rattle.theory.specs.declared.Refusal.{Refusal}
 use Rattle.theory.specs.declared.Refusal.TheVariants.{BadEntry}
 use Rattle.words.specs.Changed.{unlike}
@@ -24,11 +21,11 @@ pub data Result : Type 0 where
 -- ---- fresh: all nodes rising, then producers, then roots
 
 abbrev pub entry : Bool → ℕ → Admission
-entry b place = cond b Admitted (Refused (BadEntry place))
+entry b place = cond b admitted (Err (BadEntry place))
 
 abbrev pub seen_entry : ℕ → Option Bool → Admission
-seen_entry k none = Refused (BadEntry k)
-seen_entry k (some t) = Admitted
+seen_entry k None = Err (BadEntry k)
+seen_entry k (Some t) = admitted
 
 -- a node's truth by those of lower nodes under J
 unfoldable pub node_entry : Tables → Interpretation → ℕ → Admission
@@ -45,14 +42,14 @@ tables_admission T J =
     or_else (first_refusal (node_entry T J) 0 (node_count T)) (or_else (first_refusal (producer_entry T) 0 T.made) (first_refusal (root_entry T) 0 (root_count T)))
 
 unfoldable pub fresh_result : Tables → Interpretation → Admission → Result
-fresh_result T J Admitted = accepted (verdict T J) (node_count T) (fresh T J)
-fresh_result T J (Refused r) = refused r
+fresh_result T J (Ok u) = accepted (verdict T J) (node_count T) (fresh T J)
+fresh_result T J (Err r) = refused r
 
 -- ---- kept
 
 abbrev pub concluded : Option Verdict → ℕ → Evaluation → Result
-concluded none n e = refused (BadEntry 0)
-concluded (some v) n e = accepted v n e
+concluded None n e = refused (BadEntry 0)
+concluded (Some v) n e = accepted v n e
 
 unfoldable pub kept_result : Tables → Walked → Result
 kept_result T (ended ks e) = concluded (verdict_of T e) (length ks) e

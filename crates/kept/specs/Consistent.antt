@@ -1,7 +1,6 @@
 -- Tables as a plan leaves them: every entry within its table, and the reader lists complete.
 -- Assumes nothing.
-use Rattle.std.specs.Prelude.{ℕ, ◌+◌, ◌<◌, ◌≤◌, ◌≡◌, true, List, ltb, leb}
-use Rattle.std.proofs.Math.Option.{some}
+use Rattle.std.specs.Prelude.{ℕ, ◌+◌, ◌<◌, ◌≤◌, ◌≡◌, true, List, ltb, leb, Some}
 use Rattle.std.proofs.Common.{ltb-true}
 use Rattle.base.specs.Tests.{both_left, both_right}
 use Rattle.base.specs.Each.{Each}
@@ -30,8 +29,8 @@ pub record Consistent (T : Tables) : Type 0 where
   pub body : (p : ℕ) → p < T.made → body_at T p ≤ node_count T
   pub root : (r : ℕ) → r < root_count T → root_at T r < node_count T
   pub few : T.made ≤ root_count T
-  pub readers : (k : ℕ) → k < node_count T → readers_at T k ≡ some (readers_in T k)
-  pub atom_nodes : (a : ℕ) → a < atom_count T → atom_nodes_at T a ≡ some (atom_nodes_in T a)
+  pub readers : (k : ℕ) → k < node_count T → readers_at T k ≡ Some (readers_in T k)
+  pub atom_nodes : (a : ℕ) → a < atom_count T → atom_nodes_at T a ≡ Some (atom_nodes_in T a)
 
 lower_by : (t : Counts) (operands : List ℕ) (k : ℕ) (node : Node) → sound_node t operands k node ≡ true → Each (λ o. o < k) (operands_of operands node)
 unfolding sound_node operands_of

@@ -6,19 +6,17 @@ use Rattle.std.proofs.Math.Dec.{leb}
 use borrow.Author.Tests.{ltb-true, leb-true}
 use Rattle.base.specs.Tests.{both_right}
 use Rattle.formula.specs.Satisfaction.{Interpretation}
-use Rattle.theory.specs.Admission.{or_else, first_refusal}
+use Rattle.theory.specs.Admission.{or_else, first_refusal, Admission, admitted}
 use Rattle.theory.specs.Refusals.{not_both, or_else_left, or-else-right, none_refused}
-use Rattle.theory.specs.declared.Admission.{Admission}
-use Rattle.theory.specs.declared.Admission.TheVariants.{Admitted}
 use Rattle.theory.specs.declared.Refusal.TheVariants.{BadEntry}
 use Rattle.kept.specs.Tables.{Tables, atom_count, node_count, root_count, root_at, head_at, body_at}
 use Rattle.kept.specs.Check.{entry, node_entry, producer_entry, root_entry, tables_admission}
 
-entry_admitted : (b : Bool) (place : ℕ) → entry b place ≡ Admitted → b ≡ true
+entry_admitted : (b : Bool) (place : ℕ) → entry b place ≡ admitted → b ≡ true
 entry_admitted true place e = refl
 entry_admitted false place e = absurd (not_both (BadEntry place) e)
 
-module _ (T : Tables) (J : Interpretation) (ok : tables_admission T J ≡ Admitted) where
+module _ (T : Tables) (J : Interpretation) (ok : tables_admission T J ≡ admitted) where
   abbrev nodes_ok : Admission
   nodes_ok = first_refusal (node_entry T J) 0 (node_count T)
 
@@ -28,7 +26,7 @@ module _ (T : Tables) (J : Interpretation) (ok : tables_admission T J ≡ Admitt
   abbrev roots_ok : Admission
   roots_ok = first_refusal (root_entry T) 0 (root_count T)
 
-  pub nodes_ok_lem : nodes_ok ≡ Admitted
+  pub nodes_ok_lem : nodes_ok ≡ admitted
   unfolding tables_admission
   nodes_ok_lem = or_else_left nodes_ok (or_else producers_ok roots_ok) ok
 

@@ -1,8 +1,6 @@
 -- The whole outcome of a check: its answer, and every word of the kept evaluation that it is lent.
 -- Assumes nothing.
-use Rattle.std.specs.Prelude.{ℕ, List, ◌++◌, length, drop, replicate}
-use Rattle.theory.specs.declared.Admission.{Admission}
-use Rattle.theory.specs.declared.Admission.TheVariants.{Admitted, Refused}
+use Rattle.std.specs.Prelude.{ℕ, List, ◌++◌, length, drop, replicate, Ok, Err}
 use Rattle.theory.specs.declared.Refusal.{Refusal}
 use Rattle.kept.specs.Tables.{Tables}
 use Rattle.kept.specs.Verdict.{Verdict}
@@ -10,6 +8,7 @@ use Rattle.kept.specs.Layout.{of_words, written, listed}
 use Rattle.kept.specs.Check as check
 use Rattle.kept.specs.Candidate.{Candidate, atoms_of}
 use Rattle.kept.specs.Tests.{tests}
+use Rattle.theory.specs.Admission.{Admission}
 
 pub data Answer : Type 0 where
   accepted : Verdict → ℕ → Answer
@@ -31,8 +30,8 @@ concluded T ws (check.refused r) = record { answer = refused r; words = cleared 
 
 module _ (floor divisor : ℕ) where
   unfoldable pub outcome_at : Tables → Candidate → List ℕ → Admission → Outcome
-  outcome_at T c ws (Refused r) = record { answer = refused r; words = ws }
-  outcome_at T c ws Admitted = concluded T ws (check.result floor divisor T (atoms_of T c) (of_words T ws))
+  outcome_at T c ws (Err r) = record { answer = refused r; words = ws }
+  outcome_at T c ws (Ok u) = concluded T ws (check.result floor divisor T (atoms_of T c) (of_words T ws))
 
   -- of a check of candidate c by the tables T, with the words ws lent for the kept evaluation
   unfoldable pub outcome : Tables → Candidate → List ℕ → Outcome

@@ -1,7 +1,6 @@
 -- The walk of a kept check as document 01 tells it, over plain sets: which nodes are true, which nodes wait, which atoms the candidate has.
 -- Assumes nothing.
-use Rattle.std.specs.Prelude.{ℕ, ◌<◌, ◌≡◌, Bool, true, false, not, ◌&&◌, ◌||◌, List, eqb}
-use Rattle.std.proofs.Math.Option.{some}
+use Rattle.std.specs.Prelude.{ℕ, ◌<◌, ◌≡◌, Bool, true, false, not, ◌&&◌, ◌||◌, List, eqb, Some}
 use Rattle.formula.specs.Satisfaction.{Interpretation}
 use Rattle.theory.specs.Node.{node_at}
 use Rattle.theory.specs.NodeTruth.{node_truth}
@@ -32,7 +31,7 @@ waiting_after T v w k t j = updated w k false j || unlike (v k) t && among k (op
 pub record PlainWalk (T : Tables) : Type 0 where
   -- it begins with the new candidate J and its missing atoms, and with the atom nodes of the changed atoms waiting
   pub begins : (I J : Interpretation)
-      → (L : Worklist) × Lists (node_count T) (touched T I J) L × (walk_start T J (atom_count T) (fresh T I) ≡ some (summary T (truth T I) L J))
+      → (L : Worklist) × Lists (node_count T) (touched T I J) L × (walk_start T J (atom_count T) (fresh T I) ≡ Some (summary T (truth T I) L J))
   -- a step takes the lowest node that waits, sets its truth and whatever goes by it, and each node that reads it waits if the truth changed
   pub takes : (v w c : ℕ → Bool) (L : Worklist) (k : ℕ) → Lists (node_count T) w L → k < node_count T → w k ≡ true → ((j : ℕ) → j < k → w j ≡ false)
       → (L' : Worklist) × Lists (node_count T) (waiting_after T v w k (truth_by T c v k)) L'

@@ -1,16 +1,15 @@
 -- Planned tables are consistent; their producers are those of the roots.
 -- Assumes nothing.
-use Rattle.std.specs.Prelude.{ℕ, zero, suc, ◌+◌, ◌*◌, ◌<◌, ◌≤◌, ◌≡◌, refl, true, length, get_or, take}
+use Rattle.std.specs.Prelude.{ℕ, zero, suc, ◌+◌, ◌*◌, ◌<◌, ◌≤◌, ◌≡◌, refl, true, length, get_or, take, Option, Some, None, Result, Ok, Err}
 use Rattle.std.proofs.Common.{arith, ap, sym, ◌∙◌, length-take, get_or-take, lt-ltb, le-leb}
 use mathlib.Core.List.{List, [], ◌∷◌}
 use Rattle.base.specs.Tests.{both}
 use Rattle.base.specs.Each.{Each, each_at, at_each, each_append}
 use Rattle.theory.specs.Node.{node_at, span}
 use Rattle.theory.specs.WellFormed.{NodeFormed, NodeTables, WellFormed}
-use Rattle.theory.specs.Admission.{span_start}
+use Rattle.theory.specs.Admission.{span_start, admitted}
 use Rattle.theory.specs.Refusals.{none_refused}
 use Rattle.theory.specs.Spans.{each_all_below}
-use Rattle.theory.specs.declared.Admission.TheVariants.{Admitted}
 use Rattle.theory.specs.declared.Counts.{Counts}
 use Rattle.theory.specs.declared.Node.{Node}
 use Rattle.theory.specs.declared.Node.TheVariants.{Atom, False, Implies, And, Or, Unknown}
@@ -18,12 +17,11 @@ use Rattle.compile.specs.Producer.{produced}
 use Rattle.compile.specs.Producers.{refused_by, supported_at, roots_supported, made_by, producers, producer_words}
 use Rattle.compile.specs.ProducersLaws.{few-producers}
 use Rattle.compile.specs.declared.Producer.{Producer}
-use Rattle.compile.specs.declared.Produced.{Produced}
-use Rattle.compile.specs.declared.Produced.TheVariants.{Nothing, Made, Refused}
 use Rattle.compile.proofs.RootFormula.{producer_bounded}
 use Rattle.kept.specs.Tables.{Tables, node_count, root_count, root_at, head_at, body_at, sound_node, sound}
 use Rattle.kept.specs.Consistent.{Consistent}
 use Rattle.kept.specs.Planned.{classes_in, producers_in, PlannedTables}
+use Rattle.theory.specs.declared.Refusal.{Refusal}
 
 -- ---- a formed node is sound
 
@@ -61,11 +59,11 @@ module _ (t : Counts) (nodes operands classes : List ℕ) (tables : NodeTables t
   abbrev pub Inside : Producer → Type 0
   Inside p = (p.head < t.atoms) × (p.body ≤ t.nodes)
 
-  made_inside : (k : ℕ) → k < t.nodes → (made : Produced) → produced nodes operands classes k ≡ made → Each Inside (made_by made)
+  made_inside : (k : ℕ) → k < t.nodes → (made : Result (Option Producer) Refusal) → produced nodes operands classes k ≡ made → Each Inside (made_by made)
   unfolding made_by
-  made_inside k l Nothing e = tt
-  made_inside k l (Made p) e = let b = producer_bounded t nodes operands classes tables k l p e in ((b.head_in, b.body_in_lem), tt)
-  made_inside k l (Refused r) e = tt
+  made_inside k l (Ok None) e = tt
+  made_inside k l (Ok (Some p)) e = let b = producer_bounded t nodes operands classes tables k l p e in ((b.head_in, b.body_in_lem), tt)
+  made_inside k l (Err r) e = tt
 
   producers_inside : (roots : List ℕ) → Each (λ k. k < t.nodes) roots → Each Inside (producers nodes operands classes roots)
   unfolding producers
@@ -80,7 +78,7 @@ module _ (T : Tables) (plan : PlannedTables T) where
 
   -- each root is a node, and not refused
   abbrev pub Supported : ℕ → Type 0
-  Supported k = (k < node_count T) × (refused_by (produced T.nodes T.operands (classes_in T) k) ≡ Admitted)
+  Supported k = (k < node_count T) × (refused_by (produced T.nodes T.operands (classes_in T) k) ≡ admitted)
 
   pub length_roots : length root_list ≡ root_count T
   length_roots = length-take (root_count T) T.roots ∙ (omega (arith, plan.root_table.roots_long))

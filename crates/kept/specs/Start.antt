@@ -1,7 +1,6 @@
 -- The start of the walk: the new candidate with its missing atoms, and the atom nodes of changed atoms on the worklist.
 -- Assumes nothing.
-use Rattle.std.specs.Prelude.{ℕ, zero, suc, cond, ◌&&◌, List, [], ◌∷◌, eqb, ltb, get_or}
-use Rattle.std.proofs.Math.Option.{Option, some, none}
+use Rattle.std.specs.Prelude.{ℕ, zero, suc, cond, ◌&&◌, List, [], ◌∷◌, eqb, ltb, get_or, Option, Some, None}
 use Rattle.formula.specs.Satisfaction.{Interpretation}
 use Rattle.words.specs.Changed.{unlike}
 use Rattle.kept.specs.CountedSet.{and_then, with_bit, with_member}
@@ -11,8 +10,8 @@ use Rattle.kept.specs.Parts.{with_candidate}
 use Rattle.kept.specs.Step.{entered}
 
 unfoldable pub all_entered : Tables → Evaluation → List ℕ → Option Evaluation
-all_entered T e [] = some e
-all_entered T e (k ∷ ks) = and_then (cond (ltb k (node_count T)) (entered T k e) none) (λ d. all_entered T d ks)
+all_entered T e [] = Some e
+all_entered T e (k ∷ ks) = and_then (cond (ltb k (node_count T)) (entered T k e) None) (λ d. all_entered T d ks)
 
 -- atom a becomes as the candidate J has it
 unfoldable pub atom_turned : Tables → Interpretation → ℕ → Evaluation → Option Evaluation
@@ -22,9 +21,9 @@ atom_turned T J a e =
 
 -- if it is not so
 unfoldable pub atom_updated : Tables → Interpretation → ℕ → Evaluation → Option Evaluation
-atom_updated T J a e = cond (unlike (present e a) (J a)) (atom_turned T J a e) (some e)
+atom_updated T J a e = cond (unlike (present e a) (J a)) (atom_turned T J a e) (Some e)
 
 -- the atoms below n
 unfoldable pub walk_start : Tables → Interpretation → ℕ → Evaluation → Option Evaluation
-walk_start T J zero e = some e
+walk_start T J zero e = Some e
 walk_start T J (suc a) e = and_then (walk_start T J a e) (atom_updated T J a)

@@ -1,7 +1,6 @@
 -- What a check is lent beside the candidate and the kept evaluation, and what it reads there.
 -- Assumes nothing.
-use Rattle.std.specs.Prelude.{ℕ, ◌+◌, ◌*◌, Bool, true, false, cond, ◌&&◌, List, ltb, leb, get_or}
-use Rattle.std.proofs.Math.Option.{Option, some, none}
+use Rattle.std.specs.Prelude.{ℕ, ◌+◌, ◌*◌, Bool, true, false, cond, ◌&&◌, List, ltb, leb, get_or, Option, Some, None}
 use Rattle.theory.specs.Admission.{all_below}
 use Rattle.theory.specs.Node.{node_at, span, operands_of}
 use Rattle.theory.specs.declared.Counts.{Counts}
@@ -58,7 +57,7 @@ sound T k = sound_node T.counts T.operands k (node_at T.nodes k)
 
 -- the part of the reader table between start s and the next; none: they are out of order or past the table
 unfoldable pub between : ℕ → List ℕ → ℕ → ℕ → Option (List ℕ)
-between most words a e = cond (leb a e && leb e most) (some (part words a e)) none
+between most words a e = cond (leb a e && leb e most) (Some (part words a e)) None
 
 unfoldable pub list_at : Tables → ℕ → Option (List ℕ)
 list_at T s = between (reader_words T.counts) T.readers (get_or T.readers s 0) (get_or T.readers (s + 1) 0)

@@ -1,10 +1,8 @@
 -- The tests of a check before 17: 3 by counts, 9, 15, 16.
 -- Assumes nothing.
-use Rattle.std.specs.Prelude.{ℕ, ◌*◌, cond, ◌&&◌, List, [], ◌∷◌, eqb, ltb, length}
-use Rattle.theory.specs.Admission.{or_else}
+use Rattle.std.specs.Prelude.{ℕ, ◌*◌, cond, ◌&&◌, List, [], ◌∷◌, eqb, ltb, length, Err}
+use Rattle.theory.specs.Admission.{or_else, Admission, admitted}
 use Rattle.theory.specs.Limits.{limits_of}
-use Rattle.theory.specs.declared.Admission.{Admission}
-use Rattle.theory.specs.declared.Admission.TheVariants.{Admitted, Refused}
 use Rattle.theory.specs.declared.Refusal.TheVariants.{ShortBuffer, ForeignStamp, StrayBit}
 use Rattle.words.specs.Next.{next}
 use Rattle.readers.specs.ReaderTable.{reader_words}
@@ -36,17 +34,17 @@ buffers T c size =
 
 -- 9: the first that is too short
 unfoldable pub first_short : List Buffer → Admission
-first_short [] = Admitted
-first_short (b ∷ bs) = cond (ltb b.lent b.least) (Refused (ShortBuffer b.number)) (first_short bs)
+first_short [] = admitted
+first_short (b ∷ bs) = cond (ltb b.lent b.least) (Err (ShortBuffer b.number)) (first_short bs)
 
 -- 15
 unfoldable pub stamps : Tables → Candidate → Admission
-stamps T c = cond (eqb c.stamp T.counts.stamp && eqb T.plan T.counts.stamp) Admitted (Refused ForeignStamp)
+stamps T c = cond (eqb c.stamp T.counts.stamp && eqb T.plan T.counts.stamp) admitted (Err ForeignStamp)
 
 -- 16: the lowest bit at or above `atoms`
 unfoldable pub stray_bit : Tables → Candidate → Admission
 stray_bit T c =
-    cond (ltb (next 64 (listed_words T c) (atom_count T)) (64 * length (listed_words T c))) (Refused (StrayBit (next 64 (listed_words T c) (atom_count T)))) Admitted
+    cond (ltb (next 64 (listed_words T c) (atom_count T)) (64 * length (listed_words T c))) (Err (StrayBit (next 64 (listed_words T c) (atom_count T)))) admitted
 
 -- 3, 9, 15, 16
 unfoldable pub tests : Tables → Candidate → ℕ → Admission

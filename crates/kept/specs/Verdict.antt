@@ -1,7 +1,6 @@
 -- The verdict on a candidate, and as an evaluation tells it.
 -- Assumes nothing.
-use Rattle.std.specs.Prelude.{ℕ, Bool, cond, ◌&&◌, eqb, ltb}
-use Rattle.std.proofs.Math.Option.{Option, some, none}
+use Rattle.std.specs.Prelude.{ℕ, Bool, cond, ◌&&◌, eqb, ltb, Option, Some, None}
 use Rattle.base.specs.Places.{lowest}
 use Rattle.formula.specs.Satisfaction.{Interpretation}
 use Rattle.kept.specs.CountedSet.{Lookup, empty, astray, at, lookup}
@@ -30,11 +29,11 @@ verdict T I =
 
 -- by the false roots and the missing atoms found; none: a set and its count, or its table, are at odds, or the root named is no node
 unfoldable pub judged : Tables → Lookup → Lookup → Option Verdict
-judged T (at r) m = cond (ltb (root_at T r) (node_count T)) (some (not_model (root_at T r))) none
-judged T astray m = none
-judged T empty (at a) = some (residual a)
-judged T empty astray = none
-judged T empty empty = some stable
+judged T (at r) m = cond (ltb (root_at T r) (node_count T)) (Some (not_model (root_at T r))) None
+judged T astray m = None
+judged T empty (at a) = Some (residual a)
+judged T empty astray = None
+judged T empty empty = Some stable
 
 unfoldable pub verdict_of : Tables → Evaluation → Option Verdict
 verdict_of T e = judged T (lookup (root_count T) 0 e.false_roots) (lookup (atom_count T) 0 e.missing)

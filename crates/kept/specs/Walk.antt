@@ -1,7 +1,6 @@
 -- The walk of a kept check: steps from its start until the worklist is empty.
 -- Assumes nothing.
-use Rattle.std.specs.Prelude.{ℕ, zero, suc, ◌*◌, cond, List, [], ◌∷◌, ltb, length}
-use Rattle.std.proofs.Math.Option.{Option, some, none}
+use Rattle.std.specs.Prelude.{ℕ, zero, suc, ◌*◌, cond, List, [], ◌∷◌, ltb, length, Option, Some, None}
 use Rattle.formula.specs.Satisfaction.{Interpretation}
 use Rattle.words.specs.Next.{next}
 use Rattle.kept.specs.Tables.{Tables, atom_count, node_count}
@@ -29,8 +28,8 @@ walk T zero e = ended [] e
 walk T (suc n) e = onward e (walk T n) (step T e)
 
 abbrev pub walk_from : Tables → Option Evaluation → Walked
-walk_from T none = broken 0
-walk_from T (some e) = walk T (suc (node_count T)) e
+walk_from T None = broken 0
+walk_from T (Some e) = walk T (suc (node_count T)) e
 
 -- a kept candidate with a member that is no atom is 17, place 0
 unfoldable pub kept_walk : Tables → Interpretation → Evaluation → Walked

@@ -3,8 +3,7 @@
 -- itself is remembered with the number of the others right then, of which it is the lowest: once no more wait it is the next, and need not
 -- be looked for.
 -- Assumes nothing.
-use Rattle.std.specs.Prelude.{ℕ, ◌<◌, ◌≤◌, ◌-◌, ◌*◌, ◌/◌, ◌≡◌, Bool, true, not, cond, ◌&&◌, List, eqb, ltb, get_or}
-use Rattle.std.proofs.Math.Option.{Option, some, none}
+use Rattle.std.specs.Prelude.{ℕ, ◌<◌, ◌≤◌, ◌-◌, ◌*◌, ◌/◌, ◌≡◌, Bool, true, not, cond, ◌&&◌, List, eqb, ltb, get_or, Option, Some, None}
 use Rattle.base.specs.Places.{count, lowest}
 use Rattle.words.specs.Sets.{inserted, removed}
 use Rattle.words.specs.Next.{next}
@@ -32,7 +31,7 @@ with_far w k s = record { first = w.first; far = k; far_size = s; others = w.oth
 unfoldable pub behind : ℕ → Worklist → ℕ → Option Worklist
 behind n w m =
     and_then (with_member n w.others m true)
-    (λ o. some (record { first = w.first; far = w.far; far_size = w.far_size; others = o; groups = inserted 32 w.groups (m / 32) }))
+    (λ o. Some (record { first = w.first; far = w.far; far_size = w.far_size; others = o; groups = inserted 32 w.groups (m / 32) }))
 
 -- node m, which was the first, is behind a lower one: it is remembered, unless one further on is
 unfoldable pub remembering : ℕ → Worklist → Worklist
@@ -40,17 +39,17 @@ remembering m w = cond (ltb m w.far) w (with_far w m w.others.size)
 
 -- node m where none waits; none: the first points past the number of nodes
 unfoldable pub alone : ℕ → Worklist → ℕ → Option Worklist
-alone n w m = cond (eqb w.first n) (some (with_first w m)) none
+alone n w m = cond (eqb w.first n) (Some (with_first w m)) None
 
 -- node m, which is lower, comes before the first
 unfoldable pub before : ℕ → Worklist → ℕ → Option Worklist
-before n w m = and_then (behind n (with_first w m) w.first) (λ v. some (remembering w.first v))
+before n w m = and_then (behind n (with_first w m) w.first) (λ v. Some (remembering w.first v))
 
 -- the lower of m and the first comes first
 unfoldable pub with_node : ℕ → Worklist → ℕ → Option Worklist
 with_node n w m =
     cond (ltb w.first m) (behind n w m)
-    (cond (eqb m w.first) (some w) (cond (ltb w.first n) (before n w m) (alone n w m)))
+    (cond (eqb m w.first) (Some w) (cond (ltb w.first n) (before n w m) (alone n w m)))
 
 -- ---- the first leaves
 
@@ -71,7 +70,7 @@ advanced w q m =
 
 -- the lowest member of word q, m, does; none: it is not above the first, or the word has none
 unfoldable pub advance : ℕ → Worklist → ℕ → ℕ → Option Worklist
-advance n w q m = cond (ltb q (words32 n) && filled w.others.members q && ltb w.first m) (some (advanced w q m)) none
+advance n w q m = cond (ltb q (words32 n) && filled w.others.members q && ltb w.first m) (Some (advanced w q m)) None
 
 -- the next word with members, looked for: the one that the first node would stand in, else by the groups
 unfoldable pub sought_filled : Worklist → ℕ
@@ -91,7 +90,7 @@ forgotten w = cond (eqb w.far_size 0) w (with_far w 0 0)
 
 unfoldable pub without_first : ℕ → Worklist → Option Worklist
 without_first n w =
-    cond (eqb w.others.size 0) (some (forgotten (with_first w n)))
+    cond (eqb w.others.size 0) (Some (forgotten (with_first w n)))
     (advance n w (next_filled w) (next 32 w.others.members (32 * next_filled w)))
 
 -- ---- a set of places below n

@@ -1,5 +1,6 @@
 -- On any words: the kept walk takes rising nodes, each once, and leaves an empty worklist; an outcome keeps the words' length and those past the listed ones.
 -- Assumes nothing.
+use Rattle.std.specs.Prelude.{Ok, Err}
 use Prim.Native.Nat.{ℕ, zero, suc, ◌≤◌, ◌+◌, ◌-◌, ◌*◌}
 use native.Mathlib.Omega.{arith}
 use mathlib.Core.Path.{◌≡◌, refl, ap, sym, ◌∙◌}
@@ -11,10 +12,8 @@ use lib.Dec.{ltb, leb}
 use lib.ListN.{length, drop, replicate, length-append, length-drop, length-replicate}
 use lib.Seq.{drop_at, drop-drop}
 use Rattle.formula.specs.Satisfaction.{Interpretation}
-use Rattle.theory.specs.Admission.{or_else, first_refusal}
+use Rattle.theory.specs.Admission.{or_else, first_refusal, Admission}
 use Rattle.theory.specs.Refusals.{not_both}
-use Rattle.theory.specs.declared.Admission.{Admission}
-use Rattle.theory.specs.declared.Admission.TheVariants.{Admitted, Refused}
 use Rattle.theory.specs.declared.Refusal.{Refusal}
 use Rattle.theory.specs.declared.Refusal.TheVariants.{BadEntry}
 use Rattle.kept.specs.Tables.{Tables, atom_count, node_count, root_count, root_at, head_at, body_at}
@@ -67,28 +66,28 @@ module _ (T : Tables) where
   abbrev Is17 : Refusal → Type 0
   Is17 r = (place : ℕ) × (r ≡ BadEntry place)
 
-  first_17 : (f : ℕ → Admission) → ((k : ℕ) (r : Refusal) → f k ≡ Refused r → Is17 r) → (i n : ℕ) (r : Refusal) → first_refusal f i n ≡ Refused r → Is17 r
+  first_17 : (f : ℕ → Admission) → ((k : ℕ) (r : Refusal) → f k ≡ Err r → Is17 r) → (i n : ℕ) (r : Refusal) → first_refusal f i n ≡ Err r → Is17 r
   unfolding first_refusal
   first_17 f h i zero r e = absurd (not_both r (sym e))
   first_17 f h i (suc n) r e = go (f i) refl e (first_17 f h (i + 1) n r)
     where
-      go : (a : Admission) → f i ≡ a → or_else a (first_refusal f (i + 1) n) ≡ Refused r → (first_refusal f (i + 1) n ≡ Refused r → Is17 r) → Is17 r
-      go Admitted p e ih = ih e
-      go (Refused s) p e ih = h i r (p ∙ e)
+      go : (a : Admission) → f i ≡ a → or_else a (first_refusal f (i + 1) n) ≡ Err r → (first_refusal f (i + 1) n ≡ Err r → Is17 r) → Is17 r
+      go (Ok u) p e ih = ih e
+      go (Err s) p e ih = h i r (p ∙ e)
 
-  seen_17 : (k : ℕ) (t : Option Bool) (r : Refusal) → seen_entry k t ≡ Refused r → Is17 r
+  seen_17 : (k : ℕ) (t : Option Bool) (r : Refusal) → seen_entry k t ≡ Err r → Is17 r
   seen_17 k none r e = (k, cc)
   seen_17 k (some t) r e = absurd (not_both r (sym e))
 
-  entry_17 : (b : Bool) (place : ℕ) (r : Refusal) → entry b place ≡ Refused r → Is17 r
+  entry_17 : (b : Bool) (place : ℕ) (r : Refusal) → entry b place ≡ Err r → Is17 r
   entry_17 true place r e = absurd (not_both r (sym e))
   entry_17 false place r e = (place, cc)
 
-  or_else_17 : (a b : Admission) (r : Refusal) → (a ≡ Refused r → Is17 r) → (b ≡ Refused r → Is17 r) → or_else a b ≡ Refused r → Is17 r
-  or_else_17 Admitted b r p q e = q e
-  or_else_17 (Refused s) b r p q e = p e
+  or_else_17 : (a b : Admission) (r : Refusal) → (a ≡ Err r → Is17 r) → (b ≡ Err r → Is17 r) → or_else a b ≡ Err r → Is17 r
+  or_else_17 (Ok u) b r p q e = q e
+  or_else_17 (Err s) b r p q e = p e
 
-  tables_17 : (J : Interpretation) (r : Refusal) → tables_admission T J ≡ Refused r → Is17 r
+  tables_17 : (J : Interpretation) (r : Refusal) → tables_admission T J ≡ Err r → Is17 r
   unfolding tables_admission node_entry producer_entry root_entry
   tables_17 J r =
       or_else_17 (first_refusal (node_entry T J) 0 (node_count T)) (or_else (first_refusal (producer_entry T) 0 T.made) (first_refusal (root_entry T) 0 (root_count T))) r
@@ -113,8 +112,8 @@ module _ (T : Tables) where
 
   fresh-sound : (J : Interpretation) (a : Admission) → tables_admission T J ≡ a → Sound (fresh_result T J a)
   unfolding fresh_result
-  fresh-sound J Admitted h = fits_fresh T J
-  fresh-sound J (Refused r) h = tables_17 J r h
+  fresh-sound J (Ok u) h = fits_fresh T J
+  fresh-sound J (Err r) h = tables_17 J r h
 
   pub result_sound : (floor divisor : ℕ) (J : Interpretation) (e : Evaluation) → Fits T e → Sound (result floor divisor T J e)
   unfolding result
@@ -167,7 +166,7 @@ module _ (T : Tables) where
   outcome_keeps floor divisor c ws = go (tests T c (length ws)) refl
     where
       go : (a : Admission) → tests T c (length ws) ≡ a → Keeps ws (outcome_at floor divisor T c ws a)
-      go (Refused r) e = record { long = refl; past = refl; refusal = λ s h. inl refl }
-      go Admitted e =
+      go (Err r) e = record { long = refl; past = refl; refusal = λ s h. inl refl }
+      go (Ok u) e =
           let l : listed T ≤ length ws = (lent_long T c (length ws) e).1.1.1.1.1.1.0 in
           concluded_keeps ws l (result floor divisor T (atoms_of T c) (of_words T ws)) (result_sound floor divisor (atoms_of T c) (of_words T ws) (fits_of T ws (omega (arith, room T))))

@@ -1,5 +1,6 @@
 -- A check goes by the listed words of the lent buffers: what stands past them does not matter, and past the listed words of the kept evaluation nothing is altered.
 -- Assumes nothing.
+use Rattle.std.specs.Prelude.{Ok, Err}
 use Prim.Native.Nat.{ℕ, ◌≤◌, ◌+◌, ◌-◌, ◌*◌}
 use native.Mathlib.Omega.{arith}
 use mathlib.Core.Path.{◌≡◌, refl, ap, ap₂, sym, ◌∙◌}
@@ -12,8 +13,6 @@ use lib.Seq.{take_all, take_at, take-append-add, take-take, length-take-le}
 use borrow.Author.Tests.{le-ltb, ltb-false}
 use Rattle.base.specs.Tests.{below_or}
 use Rattle.formula.specs.Satisfaction.{Interpretation}
-use Rattle.theory.specs.declared.Admission.{Admission}
-use Rattle.theory.specs.declared.Admission.TheVariants.{Admitted, Refused}
 use Rattle.theory.specs.declared.Refusal.TheVariants.{BadEntry}
 use Rattle.words.specs.Sets.{member}
 use Rattle.readers.specs.ReaderTable.{reader_words}
@@ -33,6 +32,7 @@ use Rattle.kept_laws.specs.Listed.{listed_tables, listed_candidate, listed_kept,
 use Rattle.kept_laws.proofs.AnyWords.{Sound, result_sound, outcome_keeps}
 use Rattle.kept_laws.proofs.ListedWalk.{walk-listed, verdict_of-listed}
 use Rattle.kept_laws.proofs.ListedFresh.{fresh_result-listed}
+use Rattle.theory.specs.Admission.{Admission}
 
 -- ---- the tests before 17
 
@@ -144,8 +144,8 @@ module _ (floor divisor : ℕ) where
     where
       go : (a : Admission) → tests T c (length ws) ≡ a
           → Same T (outcome_at floor divisor (listed_tables T) (listed_candidate T c) (listed_kept T ws) a) (outcome_at floor divisor T c ws a)
-      go (Refused r) e = (refl, take-take (listed T) (listed T) ws (omega arith))
-      go Admitted e =
+      go (Err r) e = (refl, take-take (listed T) (listed T) ws (omega arith))
+      go (Ok u) e =
           let l : listed T ≤ length ws = (lent_long T c (length ws) e).1.1.1.1.1.1.0 in
           rw (atoms_listed T c, held-listed T ws l, result_listed floor divisor T (atoms_of T c) (of_words T ws))
           (concluded-listed T ws l (result floor divisor T (atoms_of T c) (of_words T ws)) (result_sound T floor divisor (atoms_of T c) (of_words T ws) (fits T ws l)))

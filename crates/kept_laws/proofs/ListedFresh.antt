@@ -1,5 +1,6 @@
 -- A fresh check by the tables and by their listed words is the same.
 -- Assumes nothing.
+use Rattle.std.specs.Prelude.{Ok, Err}
 use Prim.Native.Nat.{ℕ, zero, suc, ◌<◌, ◌≤◌, ◌+◌}
 use native.Mathlib.Omega.{arith}
 use mathlib.Core.Path.{◌≡◌, refl, ap, ap₂, sym, ◌∙◌}
@@ -11,12 +12,10 @@ use Rattle.base.specs.Tests.{equal_or}
 use Rattle.base.specs.Places.{count_agree}
 use Rattle.base.specs.Rising.{rising, rising_at, rising_stays}
 use Rattle.formula.specs.Satisfaction.{Interpretation}
-use Rattle.theory.specs.Admission.{or_else, first_refusal}
+use Rattle.theory.specs.Admission.{or_else, first_refusal, Admission, admitted}
 use Rattle.theory.specs.Node.{node_at}
 use Rattle.theory.specs.NodeTruth.{node_truth, node_truths}
 use Rattle.theory.specs.Refusals.{not_both, first_agree}
-use Rattle.theory.specs.declared.Admission.{Admission}
-use Rattle.theory.specs.declared.Admission.TheVariants.{Admitted, Refused}
 use Rattle.theory.specs.declared.Refusal.TheVariants.{BadEntry}
 use Rattle.kept.specs.Tables.{Tables, node_count, root_count, root_at, body_at}
 use Rattle.kept.specs.Seen.{seen_by}
@@ -53,7 +52,7 @@ module _ (T : Tables) (J : Interpretation) where
   AgreeBelow n = (k : ℕ) → k < n → truth (listed_tables T) J k ≡ truth T J k
 
   nodes_listed : (i n : ℕ) → i + n ≡ node_count T → AgreeBelow i
-      → (first_refusal (node_entry (listed_tables T) J) i n ≡ first_refusal (node_entry T J) i n) × (first_refusal (node_entry T J) i n ≡ Admitted → AgreeBelow (node_count T))
+      → (first_refusal (node_entry (listed_tables T) J) i n ≡ first_refusal (node_entry T J) i n) × (first_refusal (node_entry T J) i n ≡ admitted → AgreeBelow (node_count T))
   unfolding first_refusal node_entry
   nodes_listed i zero s h = (refl, λ e k l. h k (omega arith))
   nodes_listed i (suc n) s h = go (seen_by T J (truth T J) i) refl (nodes_listed (i + 1) n (omega arith))
@@ -71,10 +70,10 @@ module _ (T : Tables) (J : Interpretation) where
 
       go : (o : Option Bool) → seen_by T J (truth T J) i ≡ o
           → (AgreeBelow (i + 1)
-          → (first_refusal (node_entry (listed_tables T) J) (i + 1) n ≡ first_refusal (node_entry T J) (i + 1) n) × (first_refusal (node_entry T J) (i + 1) n ≡ Admitted → AgreeBelow (node_count T)))
+          → (first_refusal (node_entry (listed_tables T) J) (i + 1) n ≡ first_refusal (node_entry T J) (i + 1) n) × (first_refusal (node_entry T J) (i + 1) n ≡ admitted → AgreeBelow (node_count T)))
           → (or_else (seen_entry i (seen_by (listed_tables T) J (truth (listed_tables T) J) i)) (first_refusal (node_entry (listed_tables T) J) (i + 1) n)
           ≡ or_else (seen_entry i (seen_by T J (truth T J) i)) (first_refusal (node_entry T J) (i + 1) n))
-          × (or_else (seen_entry i (seen_by T J (truth T J) i)) (first_refusal (node_entry T J) (i + 1) n) ≡ Admitted → AgreeBelow (node_count T))
+          × (or_else (seen_entry i (seen_by T J (truth T J) i)) (first_refusal (node_entry T J) (i + 1) n) ≡ admitted → AgreeBelow (node_count T))
       go none e ih = rw (same, e) (refl, λ x. absurd (not_both (BadEntry i) x))
       go (some t) e ih = rw (same, e) (ih (next t e))
 
@@ -100,7 +99,7 @@ module _ (T : Tables) (J : Interpretation) where
 
     -- ---- what a fresh check leaves
 
-    module _ (ok : tables_admission T J ≡ Admitted) where
+    module _ (ok : tables_admission T J ≡ admitted) where
       truths_agree : AgreeBelow (node_count T)
       truths_agree = (nodes_listed 0 (node_count T) (omega arith) (λ k l. absurd (omega arith))).1 (nodes_ok_lem T J ok)
 
@@ -141,5 +140,5 @@ module _ (T : Tables) (J : Interpretation) where
     fresh_result-listed = rw admission-listed (go (tables_admission T J) refl)
       where
         go : (a : Admission) → tables_admission T J ≡ a → fresh_result (listed_tables T) J a ≡ fresh_result T J a
-        go Admitted e = ap₂ (λ v d. accepted v (node_count T) d) (verdict-listed e) (fresh-listed e)
-        go (Refused r) e = refl
+        go (Ok u) e = ap₂ (λ v d. accepted v (node_count T) d) (verdict-listed e) (fresh-listed e)
+        go (Err r) e = refl

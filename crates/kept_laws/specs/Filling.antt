@@ -1,10 +1,9 @@
 -- What the loops of a fresh check keep: a part of the words filled from its front, a set and its count, support producer by producer.
 -- Assumes nothing.
-use Rattle.std.specs.Prelude.{ℕ, zero, suc, ◌<◌, ◌≡◌, Bool, true, ◌&&◌, List, [], ◌∷◌, ◌++◌, eqb, get_or, set, drop}
+use Rattle.std.specs.Prelude.{ℕ, zero, suc, ◌<◌, ◌≡◌, Bool, true, ◌&&◌, List, [], ◌∷◌, ◌++◌, eqb, get_or, set, drop, Some}
 use Rattle.std.proofs.Common.{arith, ◌∙◌, append-nil, append_assoc, drop_of_length-le, drop-cons, eq-eqb, ne_eqb, lt-ltb, le-ltb}
 use Rattle.std.proofs.Math.Path.{refl, ap, sym}
 use Rattle.std.proofs.Math.Bool.{false, and-false}
-use Rattle.std.proofs.Math.Option.{some}
 use Rattle.std.proofs.Math.Dec.{ltb}
 use Rattle.std.proofs.Math.ListN.{length, length-append}
 use Rattle.std.proofs.lemmas.List.{set_at}
@@ -67,10 +66,10 @@ module _ (f : ℕ → Bool) where
       none : (j : ℕ) → ltb j 0 && f j ≡ false
       none j = rw (le-ltb j 0 (omega arith))
 
-  pub gathered_next : (n k : ℕ) → k < n → with_member n (counted_set (up_to k) n) k (f k) ≡ some (counted_set (up_to (suc k)) n)
+  pub gathered_next : (n k : ℕ) → k < n → with_member n (counted_set (up_to k) n) k (f k) ≡ Some (counted_set (up_to (suc k)) n)
   gathered_next n k l =
       member-set (up_to k) n k (f k) l
-      ∙ ap some (counted_agree (updated (up_to k) k (f k)) (up_to (suc k)) n (λ j i. updated_is (up_to k) (up_to (suc k)) k (f k) (up_to-here k) (up_to-other k) j))
+      ∙ ap Some (counted_agree (updated (up_to k) k (f k)) (up_to (suc k)) n (λ j i. updated_is (up_to k) (up_to (suc k)) k (f k) (up_to-here k) (up_to-other k) j))
 
   pub gathered_all : (n : ℕ) → counted_set (up_to n) n ≡ counted_set f n
   unfolding up_to

@@ -3,10 +3,9 @@
 use Prim.Native.Nat.{ℕ, zero, suc, ◌<◌, ◌*◌, ◌/◌}
 use Rattle.std.proofs.Common.{arith, sym, ◌∙◌, length-set}
 use Rattle.std.proofs.Math.Path.{◌≡◌, refl, ap}
-use Rattle.std.specs.Prelude.{Bool, not, ◌&&◌, ◌||◌, get_or, set}
+use Rattle.std.specs.Prelude.{Bool, not, ◌&&◌, ◌||◌, get_or, set, Option, Some, None}
 use Rattle.std.proofs.Math.Bool.{true, false, cond}
 use mathlib.Core.List.{List, [], ◌∷◌}
-use Rattle.std.proofs.Math.Option.{Option, some, none}
 use Rattle.std.proofs.Math.Dec.{eqb, ltb}
 use Rattle.std.proofs.Math.ListN.{length}
 use borrow.Author.Tests.{ltb-true}
@@ -35,16 +34,16 @@ unfolding with_bit
 length-bit ws i true = length_inserted 32 ws i
 length-bit ws i false = length_removed 32 ws i
 
-pub length_members : (n : ℕ) (s : CountedSet) (i : ℕ) (x : Bool) (r : CountedSet) → with_member n s i x ≡ some r → length r.members ≡ length s.members
+pub length_members : (n : ℕ) (s : CountedSet) (i : ℕ) (x : Bool) (r : CountedSet) → with_member n s i x ≡ Some r → length r.members ≡ length s.members
 unfolding with_member
 length_members n s i x r e = go (unlike (member 32 s.members i) x) e
   where
     put : ℕ → CountedSet
     put m = record { members = with_bit s.members i x; size = m }
 
-    go : (b : Bool) → cond b (and_then (moved n x s.size) (λ m. some (put m))) (some s) ≡ some r → length r.members ≡ length s.members
+    go : (b : Bool) → cond b (and_then (moved n x s.size) (λ m. Some (put m))) (Some s) ≡ Some r → length r.members ≡ length s.members
     go true e =
-        let t = then_some (moved n x s.size) (λ m. some (put m)) r e in
+        let t = then_some (moved n x s.size) (λ m. Some (put m)) r e in
         ap (λ y. length y.members) (sym (some_is (put t.0) r t.2)) ∙ length-bit s.members i x
     go false e = ap (λ y. length y.members) (sym (some_is s r e))
 
@@ -56,10 +55,10 @@ pub record Alike (w r : Worklist) : Type 0 where
   pub groups : length r.groups ≡ length w.groups
 
 -- a node behind the first
-pub behind_is : (n : ℕ) (w : Worklist) (m : ℕ) (r : Worklist) → behind n w m ≡ some r → Alike w r × (r.first ≡ w.first)
+pub behind_is : (n : ℕ) (w : Worklist) (m : ℕ) (r : Worklist) → behind n w m ≡ Some r → Alike w r × (r.first ≡ w.first)
 unfolding behind
 behind_is n w m r e =
-    let t = then_some (with_member n w.others m true) (λ o. some (put o)) r e in
+    let t = then_some (with_member n w.others m true) (λ o. Some (put o)) r e in
     let i : put t.0 ≡ r = some_is (put t.0) r t.2 in (
       record {
         members = ap (λ y. length y.others.members) (sym i) ∙ length_members n w.others m true t.0 t.1;
@@ -89,7 +88,7 @@ module _ (n : ℕ) (w : Worklist) (m : ℕ) (r : Worklist) where
   abbrev Enters : Type 0
   Enters = Alike w r × ((k : ℕ) → k < m → k < w.first → k < r.first)
 
-  pub node_is : with_node n w m ≡ some r → Enters
+  pub node_is : with_node n w m ≡ Some r → Enters
   unfolding with_node alone before
   node_is e = go (ltb w.first m) refl (eqb m w.first) (ltb w.first n) (eqb w.first n) e
     where
@@ -99,15 +98,15 @@ module _ (n : ℕ) (w : Worklist) (m : ℕ) (r : Worklist) where
       lower : with_first w m ≡ r → Enters
       lower i = (record { members = ap (λ y. length y.others.members) (sym i); groups = ap (λ y. length y.groups) (sym i) }, λ k a b. let x : m ≡ r.first = ap (λ y. y.first) i in omega (arith, x))
 
-      put : and_then (behind n (with_first w m) w.first) (λ v. some (remembering w.first v)) ≡ some r → Enters
+      put : and_then (behind n (with_first w m) w.first) (λ v. Some (remembering w.first v)) ≡ Some r → Enters
       put h =
-          let t = then_some (behind n (with_first w m) w.first) (λ v. some (remembering w.first v)) r h in
+          let t = then_some (behind n (with_first w m) w.first) (λ v. Some (remembering w.first v)) r h in
           let b = behind_is n (with_first w m) w.first t.0 t.1 in
           let c : Alike t.0 r × (r.first ≡ t.0.first) = rw (some_is (remembering w.first t.0) r t.2) at (remembering_is w.first t.0) in
           (record { members = c.0.members ∙ b.0.members; groups = c.0.groups ∙ b.0.groups }, λ k x y. omega (arith, b.1, c.1))
 
       go : (a : Bool) → ltb w.first m ≡ a → (b c d : Bool)
-          → cond a (behind n w m) (cond b (some w) (cond c (and_then (behind n (with_first w m) w.first) (λ v. some (remembering w.first v))) (cond d (some (with_first w m)) none))) ≡ some r → Enters
+          → cond a (behind n w m) (cond b (Some w) (cond c (and_then (behind n (with_first w m) w.first) (λ v. Some (remembering w.first v))) (cond d (Some (with_first w m)) None))) ≡ Some r → Enters
       go true p b c d h = let x = behind_is n w m r h in (x.0, λ k y z. omega (arith, x.1))
       go false p true c d h = same (some_is w r h)
       go false p false true d h = put h
@@ -123,10 +122,10 @@ module _ (n : ℕ) (w : Worklist) (r : Worklist) where
   alike_groups true q = refl
   alike_groups false q = length_removed 32 w.groups q
 
-  advance_is : (q m : ℕ) → advance n w q m ≡ some r → Leaves
+  advance_is : (q m : ℕ) → advance n w q m ≡ Some r → Leaves
   unfolding advance advanced
   advance_is q m e =
-      let t = if_some (ltb q (words32 n) && filled w.others.members q && ltb w.first m) (some (advanced w q m)) r e in
+      let t = if_some (ltb q (words32 n) && filled w.others.members q && ltb w.first m) (Some (advanced w q m)) r e in
       let i : advanced w q m ≡ r = some_is (advanced w q m) r t.1 in
       let x : m ≡ r.first = ap (λ y. y.first) i in
       let b : ltb w.first m ≡ true = both_right (ltb q (words32 n) && filled w.others.members q) (ltb w.first m) t.0 in (
@@ -137,7 +136,7 @@ module _ (n : ℕ) (w : Worklist) (r : Worklist) where
         λ l. omega (arith, x, ltb-true w.first m b),
       )
 
-  pub left_is : without_first n w ≡ some r → Leaves
+  pub left_is : without_first n w ≡ Some r → Leaves
   unfolding without_first
   left_is e = go (eqb w.others.size 0) e
     where
@@ -146,7 +145,7 @@ module _ (n : ℕ) (w : Worklist) (r : Worklist) where
           let b : Alike (with_first w n) r × (r.first ≡ n) = rw i at (forgotten_is (with_first w n)) in
           (record { members = b.0.members; groups = b.0.groups }, λ l. omega (arith, b.1))
 
-      go : (b : Bool) → cond b (some (forgotten (with_first w n))) (advance n w (next_filled w) (next 32 w.others.members (32 * next_filled w))) ≡ some r → Leaves
+      go : (b : Bool) → cond b (Some (forgotten (with_first w n))) (advance n w (next_filled w) (next 32 w.others.members (32 * next_filled w))) ≡ Some r → Leaves
       go true h = last (some_is (forgotten (with_first w n)) r h)
       go false h = advance_is (next_filled w) (next 32 w.others.members (32 * next_filled w)) h
 
@@ -175,59 +174,59 @@ module _ (T : Tables) where
 
   -- ---- a reader told
 
-  entered_fits : (m : ℕ) (e d : Evaluation) → entered T m e ≡ some d → Fits T e → Fits T d
+  entered_fits : (m : ℕ) (e d : Evaluation) → entered T m e ≡ Some d → Fits T e → Fits T d
   unfolding entered
   entered_fits m e d h f =
-      let t = then_some (with_node (node_count T) e.worklist m) (λ w. some (with_worklist e w)) d h in
+      let t = then_some (with_node (node_count T) e.worklist m) (λ w. Some (with_worklist e w)) d h in
       rw (some_is (with_worklist e t.0) d t.2) at (worklist_fits e t.0 (node_is (node_count T) e.worklist m t.0 t.1).0 f)
 
   -- what waits is above k
   abbrev pub Above : ℕ → Evaluation → Type 0
   Above k e = k < e.worklist.first
 
-  entered_above : (k m : ℕ) (e d : Evaluation) → entered T m e ≡ some d → k < m → Above k e → Above k d
+  entered_above : (k m : ℕ) (e d : Evaluation) → entered T m e ≡ Some d → k < m → Above k e → Above k d
   unfolding entered
   entered_above k m e d h l a =
-      let t = then_some (with_node (node_count T) e.worklist m) (λ w. some (with_worklist e w)) d h in
+      let t = then_some (with_node (node_count T) e.worklist m) (λ w. Some (with_worklist e w)) d h in
       let i : t.0.first ≡ d.worklist.first = ap (λ y. y.worklist.first) (some_is (with_worklist e t.0) d t.2) in
       omega (arith, i, (node_is (node_count T) e.worklist m t.0 t.1).1 k l a)
 
-  pub missing_long : (a s n : ℕ) (e : Evaluation) (m : CountedSet) → missing_by T a s n e ≡ some m → length m.members ≡ length e.missing.members
+  pub missing_long : (a s n : ℕ) (e : Evaluation) (m : CountedSet) → missing_by T a s n e ≡ Some m → length m.members ≡ length e.missing.members
   unfolding missing_by
   missing_long a s n e m h = go (eqb s 0 || eqb n 0) h
     where
-      go : (b : Bool) → cond b (with_member (atom_count T) e.missing a (present e a && eqb n 0)) (some e.missing) ≡ some m → length m.members ≡ length e.missing.members
+      go : (b : Bool) → cond b (with_member (atom_count T) e.missing a (present e a && eqb n 0)) (Some e.missing) ≡ Some m → length m.members ≡ length e.missing.members
       go true h = length_members (atom_count T) e.missing a (present e a && eqb n 0) m h
       go false h = ap (λ y. length y.members) (sym (some_is e.missing m h))
 
-  moved_fits : (t : Bool) (a : ℕ) (e d : Evaluation) → support_moved T t a e ≡ some d → Fits T e → Fits T d
+  moved_fits : (t : Bool) (a : ℕ) (e d : Evaluation) → support_moved T t a e ≡ Some d → Fits T e → Fits T d
   unfolding support_moved
   moved_fits t a e d h f =
-      let p = then_some (moved T.made t (get_or e.support a 0)) (λ n. and_then (missing_by T a (get_or e.support a 0) n e) (λ m. some (with_support e (set e.support a n) m))) d h in
-      let q = then_some (missing_by T a (get_or e.support a 0) p.0 e) (λ m. some (with_support e (set e.support a p.0) m)) d p.2 in
+      let p = then_some (moved T.made t (get_or e.support a 0)) (λ n. and_then (missing_by T a (get_or e.support a 0) n e) (λ m. Some (with_support e (set e.support a n) m))) d h in
+      let q = then_some (missing_by T a (get_or e.support a 0) p.0 e) (λ m. Some (with_support e (set e.support a p.0) m)) d p.2 in
       rw (some_is (with_support e (set e.support a p.0) q.0) d q.2) at
       (support_fits e a p.0 q.0 (missing_long a (get_or e.support a 0) p.0 e q.0 q.1) f)
 
-  turned_fits : (t : Bool) (r : ℕ) (e d : Evaluation) → root_turned T t r e ≡ some d → Fits T e → Fits T d
+  turned_fits : (t : Bool) (r : ℕ) (e d : Evaluation) → root_turned T t r e ≡ Some d → Fits T e → Fits T d
   unfolding root_turned
   turned_fits t r e d h f =
-      let p = then_some (with_member (root_count T) e.false_roots r (not t)) (λ m. some (with_false_roots e m)) d h in
+      let p = then_some (with_member (root_count T) e.false_roots r (not t)) (λ m. Some (with_false_roots e m)) d h in
       rw (some_is (with_false_roots e p.0) d p.2) at (roots_fit e p.0 (length_members (root_count T) e.false_roots r (not t) p.0 p.1) f)
 
-  moved_above : (t : Bool) (a : ℕ) (e d : Evaluation) → support_moved T t a e ≡ some d → e.worklist ≡ d.worklist
+  moved_above : (t : Bool) (a : ℕ) (e d : Evaluation) → support_moved T t a e ≡ Some d → e.worklist ≡ d.worklist
   unfolding support_moved
   moved_above t a e d h =
-      let p = then_some (moved T.made t (get_or e.support a 0)) (λ n. and_then (missing_by T a (get_or e.support a 0) n e) (λ m. some (with_support e (set e.support a n) m))) d h in
-      let q = then_some (missing_by T a (get_or e.support a 0) p.0 e) (λ m. some (with_support e (set e.support a p.0) m)) d p.2 in
+      let p = then_some (moved T.made t (get_or e.support a 0)) (λ n. and_then (missing_by T a (get_or e.support a 0) n e) (λ m. Some (with_support e (set e.support a n) m))) d h in
+      let q = then_some (missing_by T a (get_or e.support a 0) p.0 e) (λ m. Some (with_support e (set e.support a p.0) m)) d p.2 in
       ap (λ y. y.worklist) (some_is (with_support e (set e.support a p.0) q.0) d q.2)
 
-  turned_above : (t : Bool) (r : ℕ) (e d : Evaluation) → root_turned T t r e ≡ some d → e.worklist ≡ d.worklist
+  turned_above : (t : Bool) (r : ℕ) (e d : Evaluation) → root_turned T t r e ≡ Some d → e.worklist ≡ d.worklist
   unfolding root_turned
   turned_above t r e d h =
-      let p = then_some (with_member (root_count T) e.false_roots r (not t)) (λ m. some (with_false_roots e m)) d h in
+      let p = then_some (with_member (root_count T) e.false_roots r (not t)) (λ m. Some (with_false_roots e m)) d h in
       ap (λ y. y.worklist) (some_is (with_false_roots e p.0) d p.2)
 
-  reader_above : (k : ℕ) (t : Bool) (e d : Evaluation) (x : Reading) → reader_updated T k t e x ≡ some d → Above k e → Above k d
+  reader_above : (k : ℕ) (t : Bool) (e d : Evaluation) (x : Reading) → reader_updated T k t e x ≡ Some d → Above k e → Above k d
   unfolding reader_updated
   reader_above k t e d (Node m) h a =
       let p = if_some (ltb k m && ltb m (node_count T)) (entered T m e) d h in
@@ -238,21 +237,21 @@ module _ (T : Tables) where
   reader_above k t e d (Root r) h a = let i = turned_above t r e d (if_some (ltb r (root_count T)) (root_turned T t r e) d h).1 in rw i at a
   reader_above k t e d Unknown h a = let z : ◌≡◌ {A = ℕ} 0 1 = cc in absurd (omega arith)
 
-  readers_above : (k : ℕ) (t : Bool) (e d : Evaluation) (xs : List ℕ) → readers_updated T k t e xs ≡ some d → Above k e → Above k d
+  readers_above : (k : ℕ) (t : Bool) (e d : Evaluation) (xs : List ℕ) → readers_updated T k t e xs ≡ Some d → Above k e → Above k d
   unfolding readers_updated
   readers_above k t e d [] h a = rw (some_is e d h) at a
   readers_above k t e d (x ∷ xs) h a =
       let p = then_some (reader_updated T k t e (reading_of x)) (λ b. readers_updated T k t b xs) d h in
       readers_above k t p.0 d xs p.2 (reader_above k t e p.0 (reading_of x) p.1 a)
 
-  pub reader_fits : (k : ℕ) (t : Bool) (e d : Evaluation) (x : Reading) → reader_updated T k t e x ≡ some d → Fits T e → Fits T d
+  pub reader_fits : (k : ℕ) (t : Bool) (e d : Evaluation) (x : Reading) → reader_updated T k t e x ≡ Some d → Fits T e → Fits T d
   unfolding reader_updated
   reader_fits k t e d (Node m) h = entered_fits m e d (if_some (ltb k m && ltb m (node_count T)) (entered T m e) d h).1
   reader_fits k t e d (Producer p) h = moved_fits t (head_at T p) e d (if_some (ltb p T.made && ltb (head_at T p) (atom_count T)) (support_moved T t (head_at T p) e) d h).1
   reader_fits k t e d (Root r) h = turned_fits t r e d (if_some (ltb r (root_count T)) (root_turned T t r e) d h).1
   reader_fits k t e d Unknown h = let z : ◌≡◌ {A = ℕ} 0 1 = cc in absurd (omega arith)
 
-  pub readers_fit : (k : ℕ) (t : Bool) (e d : Evaluation) (xs : List ℕ) → readers_updated T k t e xs ≡ some d → Fits T e → Fits T d
+  pub readers_fit : (k : ℕ) (t : Bool) (e d : Evaluation) (xs : List ℕ) → readers_updated T k t e xs ≡ Some d → Fits T e → Fits T d
   unfolding readers_updated
   readers_fit k t e d [] h f = rw (some_is e d h) at f
   readers_fit k t e d (x ∷ xs) h f =
@@ -261,12 +260,12 @@ module _ (T : Tables) where
 
   -- ---- a step
 
-  took_is : (k m : ℕ) (o : Option Evaluation) (d : Evaluation) → took_at k o ≡ took m d → (k ≡ m) × (o ≡ some d)
-  took_is k m none d e = let z : ◌≡◌ {A = ℕ} 0 1 = cc in absurd (omega arith)
-  took_is k m (some c) d e = (cc, cc)
+  took_is : (k m : ℕ) (o : Option Evaluation) (d : Evaluation) → took_at k o ≡ took m d → (k ≡ m) × (o ≡ Some d)
+  took_is k m None d e = let z : ◌≡◌ {A = ℕ} 0 1 = cc in absurd (omega arith)
+  took_is k m (Some c) d e = (cc, cc)
 
   pub settled-cases : (k m : ℕ) (t : Bool) (e d : Evaluation) → settled T k t e ≡ took m d → (P : Evaluation → Type 0)
-      → P e → ((xs : List ℕ) → readers_updated T k t (with_truths e (set e.truths k (truth_word t))) xs ≡ some d → P d) → (k ≡ m) × P d
+      → P e → ((xs : List ℕ) → readers_updated T k t (with_truths e (set e.truths k (truth_word t))) xs ≡ Some d → P d) → (k ≡ m) × P d
   unfolding settled
   settled-cases k m t e d h P same told = go (unlike (truth_at e k) t) h
     where
@@ -282,9 +281,9 @@ module _ (T : Tables) where
     pub first : e.worklist.first ≡ m
     pub below : m < node_count T
     pub truth : Bool
-    pub known : seen T e m ≡ some truth
+    pub known : seen T e m ≡ Some truth
     pub left : Worklist
-    pub off : without_first (node_count T) e.worklist ≡ some left
+    pub off : without_first (node_count T) e.worklist ≡ Some left
     pub rest : settled T m truth (with_worklist e left) ≡ took m d
 
   pub taken : (e : Evaluation) (m : ℕ) (d : Evaluation) → step T e ≡ took m d → Taken e m d
@@ -294,7 +293,7 @@ module _ (T : Tables) where
       from : (k : ℕ) → e.worklist.first ≡ k → step_at T e k ≡ took m d → Taken e m d
       from k f h = go (ltb k (node_count T)) refl (eqb k (node_count T)) h
         where
-          whole : k < node_count T → (t : Bool) → seen T e k ≡ some t → (w : Worklist) → without_first (node_count T) e.worklist ≡ some w
+          whole : k < node_count T → (t : Bool) → seen T e k ≡ Some t → (w : Worklist) → without_first (node_count T) e.worklist ≡ Some w
               → settled T k t (with_worklist e w) ≡ took m d → k ≡ m → Taken e m d
           whole l t s w o h q =
               let made : Taken e k d → Taken e m d = λ x. rw q at x in
@@ -302,9 +301,9 @@ module _ (T : Tables) where
 
           leave : k < node_count T → (b : Option Bool) → seen T e k ≡ b → (o : Option Worklist) → without_first (node_count T) e.worklist ≡ o
               → settled_from T k e b o ≡ took m d → Taken e m d
-          leave l none s o q h = let z : ◌≡◌ {A = ℕ} 0 1 = cc in absurd (omega arith)
-          leave l (some t) s none q h = let z : ◌≡◌ {A = ℕ} 0 1 = cc in absurd (omega arith)
-          leave l (some t) s (some w) q h = whole l t s w q h (settled-cases k m t (with_worklist e w) d h (λ y. Unit {0}) tt (λ xs y. tt)).0
+          leave l None s o q h = let z : ◌≡◌ {A = ℕ} 0 1 = cc in absurd (omega arith)
+          leave l (Some t) s None q h = let z : ◌≡◌ {A = ℕ} 0 1 = cc in absurd (omega arith)
+          leave l (Some t) s (Some w) q h = whole l t s w q h (settled-cases k m t (with_worklist e w) d h (λ y. Unit {0}) tt (λ xs y. tt)).0
 
           go : (b : Bool) → ltb k (node_count T) ≡ b → (c : Bool)
               → cond b (settled_from T k e (seen T e k) (without_first (node_count T) e.worklist)) (cond c idle (fault 0)) ≡ took m d → Taken e m d
@@ -330,14 +329,14 @@ module _ (T : Tables) where
 
   -- ---- the start
 
-  pub entered_all_fits : (e d : Evaluation) (ks : List ℕ) → all_entered T e ks ≡ some d → Fits T e → Fits T d
+  pub entered_all_fits : (e d : Evaluation) (ks : List ℕ) → all_entered T e ks ≡ Some d → Fits T e → Fits T d
   unfolding all_entered
   entered_all_fits e d [] h f = rw (some_is e d h) at f
   entered_all_fits e d (k ∷ ks) h f =
-      let p = then_some (cond (ltb k (node_count T)) (entered T k e) none) (λ b. all_entered T b ks) d h in
+      let p = then_some (cond (ltb k (node_count T)) (entered T k e) None) (λ b. all_entered T b ks) d h in
       entered_all_fits p.0 d ks p.2 (entered_fits k e p.0 (if_some (ltb k (node_count T)) (entered T k e) p.0 p.1).1 f)
 
-  pub atom_fits : (J : Interpretation) (a : ℕ) (e d : Evaluation) → atom_turned T J a e ≡ some d → Fits T e → Fits T d
+  pub atom_fits : (J : Interpretation) (a : ℕ) (e d : Evaluation) → atom_turned T J a e ≡ Some d → Fits T e → Fits T d
   unfolding atom_turned
   atom_fits J a e d h f =
       let p = then_some (with_member (atom_count T) e.missing a (J a && eqb (get_or e.support a 0) 0)) (λ m. and_then (atom_nodes_at T a) (all_entered T (with_candidate e (with_bit e.candidate a (J a)) m))) d h in
@@ -345,13 +344,13 @@ module _ (T : Tables) where
       entered_all_fits (with_candidate e (with_bit e.candidate a (J a)) p.0) d q.0 q.2
       (candidate_fits e a (J a) p.0 (length_members (atom_count T) e.missing a (J a && eqb (get_or e.support a 0) 0) p.0 p.1) f)
 
-  pub start_fits : (J : Interpretation) (n : ℕ) (e d : Evaluation) → walk_start T J n e ≡ some d → Fits T e → Fits T d
+  pub start_fits : (J : Interpretation) (n : ℕ) (e d : Evaluation) → walk_start T J n e ≡ Some d → Fits T e → Fits T d
   unfolding walk_start atom_updated
   start_fits J zero e d h f = rw (some_is e d h) at f
   start_fits J (suc n) e d h f =
       let p = then_some (walk_start T J n e) (atom_updated T J n) d h in
       go (unlike (present p.0 n) (J n)) p.0 p.2 (start_fits J n e p.0 p.1 f)
     where
-      go : (b : Bool) (c : Evaluation) → cond b (atom_turned T J n c) (some c) ≡ some d → Fits T c → Fits T d
+      go : (b : Bool) (c : Evaluation) → cond b (atom_turned T J n c) (Some c) ≡ Some d → Fits T c → Fits T d
       go true c h f = atom_fits J n c d h f
       go false c h f = rw (some_is c d h) at f

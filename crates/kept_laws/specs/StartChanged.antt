@@ -2,10 +2,9 @@
 -- Assumes nothing.
 use Prim.Native.Nat.{ℕ, zero, suc, ◌<◌, ◌≤◌, ◌+◌, ◌/◌}
 use Rattle.std.proofs.Common.{arith, sym, ◌∙◌, ne_eqb}
-use Rattle.std.specs.Prelude.{◌≡◌, Bool, true, false, cond, ◌&&◌, ltb, length, get_or}
+use Rattle.std.specs.Prelude.{◌≡◌, Bool, true, false, cond, ◌&&◌, ltb, length, get_or, Option, Some, None}
 use Rattle.std.proofs.Math.Path.{refl, ap}
 use mathlib.Core.List.{List, [], ◌∷◌}
-use Rattle.std.proofs.Math.Option.{Option, some, none}
 use Rattle.std.proofs.Math.Dec.{eqb}
 use Rattle.base.specs.Places.{places, places-yes, places_no, places_agree}
 use Rattle.formula.specs.Satisfaction.{Interpretation}
@@ -30,34 +29,34 @@ bit_other ws a j true l h = member-inserted 32 ws a j l ∙ rw (ne_eqb a j h)
 bit_other ws a j false l h = member-removed 32 ws a j l ∙ rw (ne_eqb a j h)
 
 module _ (T : Tables) where
-  entered-candidate : (m : ℕ) (e d : Evaluation) → entered T m e ≡ some d → d.candidate ≡ e.candidate
+  entered-candidate : (m : ℕ) (e d : Evaluation) → entered T m e ≡ Some d → d.candidate ≡ e.candidate
   unfolding entered
   entered-candidate m e d h =
-      let p = then_some (with_node (node_count T) e.worklist m) (λ w. some (with_worklist e w)) d h in
+      let p = then_some (with_node (node_count T) e.worklist m) (λ w. Some (with_worklist e w)) d h in
       ap (λ y. y.candidate) (sym (some_is (with_worklist e p.0) d p.2))
 
-  all_candidate : (e d : Evaluation) (ks : List ℕ) → all_entered T e ks ≡ some d → d.candidate ≡ e.candidate
+  all_candidate : (e d : Evaluation) (ks : List ℕ) → all_entered T e ks ≡ Some d → d.candidate ≡ e.candidate
   unfolding all_entered
   all_candidate e d [] h = ap (λ y. y.candidate) (sym (some_is e d h))
   all_candidate e d (k ∷ ks) h =
-      let p = then_some (cond (ltb k (node_count T)) (entered T k e) none) (λ b. all_entered T b ks) d h in
+      let p = then_some (cond (ltb k (node_count T)) (entered T k e) None) (λ b. all_entered T b ks) d h in
       all_candidate p.0 d ks p.2 ∙ entered-candidate k e p.0 (if_some (ltb k (node_count T)) (entered T k e) p.0 p.1).1
 
   module _ (J : Interpretation) where
     -- one atom turned: the others stay
-    pub turned_candidate : (a : ℕ) (e d : Evaluation) → atom_turned T J a e ≡ some d → d.candidate ≡ with_bit e.candidate a (J a)
+    pub turned_candidate : (a : ℕ) (e d : Evaluation) → atom_turned T J a e ≡ Some d → d.candidate ≡ with_bit e.candidate a (J a)
     unfolding atom_turned
     turned_candidate a e d h =
         let p = then_some (with_member (atom_count T) e.missing a (J a && eqb (get_or e.support a 0) 0)) (λ m. and_then (atom_nodes_at T a) (all_entered T (with_candidate e (with_bit e.candidate a (J a)) m))) d h in
         let q = then_some (atom_nodes_at T a) (all_entered T (with_candidate e (with_bit e.candidate a (J a)) p.0)) d p.2 in
         all_candidate (with_candidate e (with_bit e.candidate a (J a)) p.0) d q.0 q.2
 
-    pub turned_present : (a j : ℕ) (e d : Evaluation) → atom_turned T J a e ≡ some d → Fits T e → a < atom_count T → (a ≡ j → ⊥) → present d j ≡ present e j
+    pub turned_present : (a j : ℕ) (e d : Evaluation) → atom_turned T J a e ≡ Some d → Fits T e → a < atom_count T → (a ≡ j → ⊥) → present d j ≡ present e j
     turned_present a j e d h f l n = ap (λ ws. member 32 ws j) (turned_candidate a e d h) ∙ bit_other e.candidate a j (J a) (omega (arith, f.candidate)) n
 
     -- atoms turned one after the other
     unfoldable pub all_turned : List ℕ → Evaluation → Option Evaluation
-    all_turned [] e = some e
+    all_turned [] e = Some e
     all_turned (a ∷ as') e = and_then (atom_turned T J a e) (all_turned as')
 
     -- the atoms that differ
@@ -73,8 +72,8 @@ module _ (T : Tables) where
         Later = (d : Evaluation) → Fits T d → a + 1 + n ≤ atom_count T → start_from T J (a + 1) n d ≡ all_turned (places (differs d) (a + 1) n) d
 
         rest : (o : Option Evaluation) → atom_turned T J a e ≡ o → Later → and_then o (start_from T J (a + 1) n) ≡ and_then o (all_turned (places (differs e) (a + 1) n))
-        rest none h ih = refl
-        rest (some d) h ih =
+        rest None h ih = refl
+        rest (Some d) h ih =
             ih d (atom_fits T J a e d h f) (omega arith)
             ∙ ap (λ ks. all_turned ks d) (places_agree (differs d) (differs e) (a + 1) n
             (λ j x y. ap (λ b. unlike b (J j)) (turned_present a j e d h f (omega arith) (λ z. omega arith))))

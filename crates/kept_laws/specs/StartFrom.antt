@@ -4,9 +4,8 @@ use Prim.Native.Nat.{ℕ, zero, suc, ◌<◌, ◌≤◌, ◌+◌, ◌-◌}
 use native.Mathlib.Omega.{arith}
 use Rattle.std.proofs.Common.{zero-add, ap, ◌∙◌}
 use Rattle.std.proofs.Math.Nat.{add-zero}
-use Rattle.std.specs.Prelude.{◌≡◌, true, false}
+use Rattle.std.specs.Prelude.{◌≡◌, true, false, Option, Some, None}
 use Rattle.std.proofs.Math.Path.{refl}
-use Rattle.std.proofs.Math.Option.{Option, some, none}
 use Rattle.base.specs.Places.{Lowest}
 use Rattle.formula.specs.Satisfaction.{Interpretation}
 use Rattle.words.specs.Changed.{unlike}
@@ -17,7 +16,7 @@ use Rattle.kept.specs.Start.{atom_turned, atom_updated, walk_start}
 
 module _ (T : Tables) (J : Interpretation) where
   unfoldable pub start_from : ℕ → ℕ → Evaluation → Option Evaluation
-  start_from a zero e = some e
+  start_from a zero e = Some e
   start_from a (suc n) e = and_then (atom_updated T J a e) (start_from (a + 1) n)
 
   start_last : (a n : ℕ) (e : Evaluation) → start_from a (suc n) e ≡ and_then (start_from a n e) (atom_updated T J (a + n))
@@ -25,18 +24,18 @@ module _ (T : Tables) (J : Interpretation) where
   start_last a zero e = rw (add-zero a) (go (atom_updated T J a e))
     where
       go : (o : Option Evaluation) → and_then o (start_from (a + 1) zero) ≡ o
-      go none = refl
-      go (some d) = refl
+      go None = refl
+      go (Some d) = refl
   start_last a (suc n) e =
       let shift : a + suc n ≡ a + 1 + n = omega arith in
       rw shift (go (atom_updated T J a e) (λ d. start_last (a + 1) n d))
     where
       go : (o : Option Evaluation) → ((d : Evaluation) → and_then (atom_updated T J (a + 1) d) (start_from (a + 1 + 1) n) ≡ and_then (start_from (a + 1) n d) (atom_updated T J (a + 1 + n)))
           → and_then o (λ d. and_then (atom_updated T J (a + 1) d) (start_from (a + 1 + 1) n)) ≡ and_then (and_then o (start_from (a + 1) n)) (atom_updated T J (a + 1 + n))
-      go none h = refl
-      go (some d) h = h d
+      go None h = refl
+      go (Some d) h = h d
 
-  start_none : (e : Evaluation) → start_from 0 0 e ≡ some e
+  start_none : (e : Evaluation) → start_from 0 0 e ≡ Some e
   unfolding start_from
   start_none e = refl
 

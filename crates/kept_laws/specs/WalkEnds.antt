@@ -4,10 +4,9 @@ use Prim.Native.Nat.{ℕ, zero, suc, ◌<◌, ◌≤◌, ◌+◌}
 use native.Mathlib.Omega.{arith}
 use Rattle.std.proofs.Math.Path.{◌≡◌, refl, ap}
 use Rattle.std.proofs.Common.{◌∙◌, subst, eqb-true}
-use Rattle.std.specs.Prelude.{Bool, eqb, ltb, set}
+use Rattle.std.specs.Prelude.{Bool, eqb, ltb, set, Option, Some, None}
 use Rattle.std.proofs.Math.Bool.{true, false, cond}
 use mathlib.Core.List.{List, [], ◌∷◌}
-use Rattle.std.proofs.Math.Option.{Option, some, none}
 use Rattle.words.specs.Changed.{unlike}
 use Rattle.kept.specs.CountedSet.{and_then}
 use Rattle.kept.specs.Worklist.{Worklist, without_first}
@@ -71,8 +70,8 @@ module _ (T : Tables) where
   settled_works k t e h = go (unlike (truth_at e k) t) (and_then (readers_at T k) (readers_updated T k t (with_truths e (set e.truths k (truth_word t))))) h
     where
       go : (b : Bool) (o : Option Evaluation) → cond b (took_at k o) (took k e) ≡ idle → ◌≡◌ {A = ℕ} 0 1
-      go true none h = cc
-      go true (some d) h = cc
+      go true None h = cc
+      go true (Some d) h = cc
       go false o h = cc
 
   idle_empty : (e : Evaluation) → step T e ≡ idle → first_of e ≡ node_count T
@@ -80,9 +79,9 @@ module _ (T : Tables) where
   idle_empty e h = go (ltb (first_of e) (node_count T)) (eqb (first_of e) (node_count T)) refl h
     where
       never : (k : ℕ) (t : Option Bool) (o : Option Worklist) → settled_from T k e t o ≡ idle → ◌≡◌ {A = ℕ} 0 1
-      never k none o h = cc
-      never k (some t) none h = cc
-      never k (some t) (some w) h = settled_works k t (with_worklist e w) h
+      never k None o h = cc
+      never k (Some t) None h = cc
+      never k (Some t) (Some w) h = settled_works k t (with_worklist e w) h
 
       go : (a b : Bool) → eqb (first_of e) (node_count T) ≡ b
           → cond a (settled_from T (first_of e) e (seen T e (first_of e)) (without_first (node_count T) e.worklist)) (cond b idle (fault 0)) ≡ idle → first_of e ≡ node_count T

@@ -1,14 +1,14 @@
 -- What `load` writes is admitted by `theory` and within the limits: planning a loaded file refuses none of 3, 1, 6, 4, 5, 7.
 -- Assumes nothing.
+use Rattle.std.specs.Prelude.{Ok, Err}
 use Prim.Native.Nat.{ℕ}
 use native.Mathlib.Omega.{arith}
 use mathlib.Core.Path.{◌≡◌, refl, sym, ap, ◌∙◌}
 use mathlib.Core.List.{List, ◌++◌}
 use lib.ListN.{length, length-append}
-use Rattle.theory.specs.Admission.{span_start, admission}
+use Rattle.theory.specs.Admission.{span_start, admission, admitted}
 use Rattle.theory.specs.Limits.{limits_of}
 use Rattle.theory.specs.LimitsLaws.{limited_admitted}
-use Rattle.theory.specs.declared.Admission.TheVariants as admission
 use Rattle.theory.specs.declared.Refusal.{Refusal}
 use Rattle.theory.proofs.Admitted.{formed_admitted}
 use Rattle.record.specs.Mark.{mark_at}
@@ -19,14 +19,12 @@ use Rattle.record.specs.Contents.{Contents, nothing, joined, of_next}
 use Rattle.record.specs.File.{File, sound, refused, start, theory_file}
 use Rattle.record.specs.declared.Cursor.{Cursor}
 use Rattle.record.specs.declared.Mark.{Mark}
-use Rattle.record.specs.declared.Step.TheVariants.{Next}
 use Rattle.record.specs.declared.Summary.{Summary}
 use Rattle.record.proofs.Laws.{length-numbers}
 use Rattle.record.proofs.Steps.{next_passed, passed_fields, begun, fixed_least}
 use Rattle.record.proofs.Judging.{read_keeps, sound-limited}
 use Rattle.load.specs.Tables.{Tables, over, holding}
 use Rattle.load.specs.Loading.{loading, loading_sound, outcome}
-use Rattle.load.specs.declared.Loaded.TheVariants.{Sound, Refused}
 use Rattle.load.proofs.Loads.{Loads, nodes_short, operands_short, roots_short, all_long, loads}
 use Rattle.load.proofs.Laws.{sizes}
 use Rattle.load.proofs.Formed.{Formed, record_formed, formed_extends}
@@ -38,7 +36,7 @@ length-values file at mark = length-numbers file _ (value_count file at mark)
 FormedAt : Cursor → Contents → Type 0
 FormedAt c t = Formed c.stage c.counts t.nodes t.operands t.roots
 
-formed_next : (file : List ℕ) (c next : Cursor) (t : Contents) → judged file c ≡ Next next → FormedAt c t → FormedAt next (joined t (of_next file c))
+formed_next : (file : List ℕ) (c next : Cursor) (t : Contents) → judged file c ≡ Ok next → FormedAt c t → FormedAt next (joined t (of_next file c))
 unfolding FormedAt of_next
 formed_next file c next t e f = go (mark_at file c.at) refl
   where
@@ -79,33 +77,33 @@ module _ (file : List ℕ) (s : Summary) (t : Contents) (e : theory_file file �
       (k.0.stage, rw (ap (λ q. q.counts) k.2) at k.1)
 
   -- whatever stands behind the contents in the lent tables
-  pub contents_admitted : (ns os rs : List ℕ) → admission s.counts (t.nodes ++ ns) (t.operands ++ os) (t.roots ++ rs) ≡ admission.Admitted
+  pub contents_admitted : (ns os rs : List ℕ) → admission s.counts (t.nodes ++ ns) (t.operands ++ os) (t.roots ++ rs) ≡ admitted
   contents_admitted ns os rs =
       let f = formed_whole.1 in
       formed_admitted s.counts (t.nodes ++ ns) (t.operands ++ os) (t.roots ++ rs)
       (formed_extends s.counts s.counts t.nodes ns t.operands os t.roots rs refl (omega arith) (omega arith) f.nodes_long f.operands_long f.roots_long f.formed
       (λ k l h. absurd (omega arith)) (λ i l h. absurd (omega arith)))
 
-  pub contents_within : limits_of s.counts ≡ admission.Admitted
+  pub contents_within : limits_of s.counts ≡ admitted
   contents_within = limited_admitted s.counts (sound-limited file s t e)
 
 -- ---- the tables that `load` leaves
 
 pub record Plannable (s : Summary) (b : Tables) : Type 0 where
-  pub within : limits_of s.counts ≡ admission.Admitted
-  pub admitted : admission s.counts b.nodes b.operands b.roots ≡ admission.Admitted
+  pub within : limits_of s.counts ≡ admitted
+  pub admitted : admission s.counts b.nodes b.operands b.roots ≡ admitted
 
-pub loaded_sound : (s x : Summary) (t : Contents) (b : Tables) → (loading_sound x t b).answer ≡ Sound s → (x ≡ s) × ((loading_sound x t b).left ≡ holding t b)
+pub loaded_sound : (s x : Summary) (t : Contents) (b : Tables) → (loading_sound x t b).answer ≡ Ok s → (x ≡ s) × ((loading_sound x t b).left ≡ holding t b)
 loaded_sound s x t b e = go (loads x t b)
   where
-    no : (r : Refusal) → loading_sound x t b ≡ outcome (Refused r) b → ⊥
-    no r q = let f : Refused r ≡ Sound s = sym (ap (λ o. o.answer) q) ∙ e in let z : ◌≡◌ {A = ℕ} 0 1 = cc in omega arith
+    no : (r : Refusal) → loading_sound x t b ≡ outcome (Err r) b → ⊥
+    no r q = let f : Err r ≡ Ok s = sym (ap (λ o. o.answer) q) ∙ e in let z : ◌≡◌ {A = ℕ} 0 1 = cc in omega arith
 
     go : Loads x t b → (x ≡ s) × ((loading_sound x t b).left ≡ holding t b)
     go (nodes_short n q) = absurd (no _ q)
     go (operands_short n o q) = absurd (no _ q)
     go (roots_short n o r q) = absurd (no _ q)
-    go (all_long l q) = let f : Sound x ≡ Sound s = sym (ap (λ o. o.answer) q) ∙ e in (cc, ap (λ o. o.left) q)
+    go (all_long l q) = let f : Ok x ≡ Ok s = sym (ap (λ o. o.answer) q) ∙ e in (cc, ap (λ o. o.left) q)
 
 holding_plannable : (file : List ℕ) (s x : Summary) (t : Contents) (b left : Tables) → theory_file file ≡ sound x t → (x ≡ s) × (left ≡ holding t b) → Plannable s left
 unfolding over
@@ -113,10 +111,10 @@ holding_plannable file s x t b left q l =
     let e : theory_file file ≡ sound s t = q ∙ ap (λ y. sound y t) l.0 in
     rw l.1 (record { within = contents_within file s t e; admitted = contents_admitted file s t e _ _ _ })
 
-pub loaded_plannable : (file : List ℕ) (s : Summary) (b : Tables) → (loading (theory_file file) b).answer ≡ Sound s → Plannable s (loading (theory_file file) b).left
+pub loaded_plannable : (file : List ℕ) (s : Summary) (b : Tables) → (loading (theory_file file) b).answer ≡ Ok s → Plannable s (loading (theory_file file) b).left
 unfolding loading
 loaded_plannable file s b = go (theory_file file) refl
   where
-    go : (f : File) → theory_file file ≡ f → (loading f b).answer ≡ Sound s → Plannable s (loading f b).left
+    go : (f : File) → theory_file file ≡ f → (loading f b).answer ≡ Ok s → Plannable s (loading f b).left
     go (refused r) q h = let z : ◌≡◌ {A = ℕ} 0 1 = cc in absurd (omega arith)
     go (sound x t) q h = holding_plannable file s x t b (loading_sound x t b).left q (loaded_sound s x t b h)

@@ -1,5 +1,6 @@
 -- The candidates of a sound file: each begins where the last one ended, and `candidate` may be called at its place.
 -- Assumes nothing.
+use Rattle.std.specs.Prelude.{Ok}
 use Prim.Native.Nat.{ℕ, ◌+◌, ◌<◌, ◌≤◌}
 use native.Mathlib.Numerals.{add-one}
 use native.Mathlib.Omega.{arith}
@@ -23,7 +24,6 @@ use Rattle.record.specs.File.{sound, start, theory_file}
 use Rattle.record.specs.declared.Cursor.{Cursor}
 use Rattle.record.specs.declared.Mark.{Mark}
 use Rattle.record.specs.declared.Mark.TheVariants.{Theory, Atom, False, Implies, And, Or, Root, Candidate, Unknown}
-use Rattle.record.specs.declared.Step.TheVariants.{Next}
 use Rattle.record.specs.declared.Summary.{Summary}
 use Rattle.record.proofs.Steps.{unless_next, next_passed}
 use Rattle.record.proofs.Judging.{read_keeps}
@@ -72,7 +72,7 @@ module _ (file : List ℕ) (c : Cursor) (cs : List (List ℕ)) (r : Read file c 
       }
 
   module _ (n : Cursor) (vs : List ℕ) where
-    read_next : (mark : Mark) → in_order mark c.stage ≡ true → judged_values c mark vs (Next n) ≡ Next n → record_end file c.at mark ≤ length file
+    read_next : (mark : Mark) → in_order mark c.stage ≡ true → judged_values c mark vs (Ok n) ≡ Ok n → record_end file c.at mark ≤ length file
         → vs ≡ values_of file c.at mark
         → Read file (passed c mark (counts_after c.counts mark vs) (record_end file c.at mark)) (cs ++ (of_record c.counts.operands mark vs).candidates)
     unfolding judged_values place_of
@@ -96,7 +96,7 @@ module _ (file : List ℕ) (c : Cursor) (cs : List (List ℕ)) (r : Read file c 
         }
     read_next Unknown o j w e = absurd (false≢true o)
 
-record_read : (file : List ℕ) (c next : Cursor) (t : Contents) → judged file c ≡ Next next → Read file c t.candidates → Read file next (joined t (of_next file c)).candidates
+record_read : (file : List ℕ) (c next : Cursor) (t : Contents) → judged file c ≡ Ok next → Read file c t.candidates → Read file next (joined t (of_next file c)).candidates
 unfolding of_next
 record_read file c next t e r =
     let p = next_passed file c next e in

@@ -1,5 +1,6 @@
 -- The tables of a sound file are well formed: `theory` admits them, also with other words behind them.
 -- Assumes nothing.
+use Rattle.std.specs.Prelude.{Ok}
 use Prim.Native.Nat.{ℕ, zero, suc, ◌+◌, ◌-◌, ◌*◌, ◌<◌, ◌≤◌}
 use native.Mathlib.Numerals.{add-one}
 use native.Mathlib.Omega.{arith}
@@ -28,7 +29,6 @@ use Rattle.record.specs.Contents.{of_record}
 use Rattle.record.specs.declared.Cursor.{Cursor}
 use Rattle.record.specs.declared.Mark.{Mark}
 use Rattle.record.specs.declared.Mark.TheVariants.{Theory, Atom, False, Implies, And, Or, Root, Candidate, Unknown}
-use Rattle.record.specs.declared.Step.TheVariants.{Next}
 use Rattle.record.proofs.Steps.{unless_next}
 
 -- ---- tables with more behind them
@@ -155,14 +155,14 @@ module _ (c n : Cursor) (vs ns os rs : List ℕ) (f : Formed c.stage c.counts ns
   same_ends : (m : ℕ) → m ≡ c.counts.nodes → span_start (ns ++ []) m ≡ c.counts.operands
   same_ends m e = rw (append-nil ns, e) f.ends
 
-  with_group : judged_group c vs (Next n) ≡ Next n → SpanFormed (more c.counts 1 (length vs) 0) (os ++ vs) c.counts.operands c.counts.nodes c.counts.operands (length vs)
+  with_group : judged_group c vs (Ok n) ≡ Ok n → SpanFormed (more c.counts 1 (length vs) 0) (os ++ vs) c.counts.operands c.counts.nodes c.counts.operands (length vs)
   unfolding judged_group
   with_group e =
       let some = unless_next _ _ _ n e in
       let below = unless_next _ _ _ n some.1 in
       group_formed c.counts os vs f.operands_long (λ z. false≢true (sym (not-true (eqb (length vs) 0) some.0) ∙ z)) below.0
 
-  pub record_formed : (mark : Mark) → in_order mark c.stage ≡ true → judged_values c mark vs (Next n) ≡ Next n → arity mark ≤ length vs → Added mark
+  pub record_formed : (mark : Mark) → in_order mark c.stage ≡ true → judged_values c mark vs (Ok n) ≡ Ok n → arity mark ≤ length vs → Added mark
   unfolding judged_values
   record_formed Theory o e m =
       let z = f.blank (eqb-true c.stage 0 o) in

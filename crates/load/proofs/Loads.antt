@@ -1,5 +1,6 @@
 -- The four ways of loading a sound file: the lowest of the lent tables that is too short, or all are long enough.
 -- Assumes nothing.
+use Rattle.std.specs.Prelude.{Ok, Err}
 use Prim.Native.Nat.{◌*◌, ◌<◌, ◌≤◌}
 use mathlib.Core.Path.{◌≡◌}
 use mathlib.Core.Logic.{⊎_elim}
@@ -12,14 +13,13 @@ use Rattle.record.specs.Contents.{Contents}
 use Rattle.record.specs.declared.Summary.{Summary}
 use Rattle.load.specs.Tables.{Tables, holding}
 use Rattle.load.specs.Loading.{outcome, loading_sound}
-use Rattle.load.specs.declared.Loaded.TheVariants.{Sound, Refused}
 
 pub data Loads (s : Summary) (t : Contents) (b : Tables) : Type 0 where
-  nodes_short : length b.nodes < 3 * s.counts.nodes → loading_sound s t b ≡ outcome (Refused (ShortBuffer 1)) b → Loads s t b
-  operands_short : 3 * s.counts.nodes ≤ length b.nodes → length b.operands < s.counts.operands → loading_sound s t b ≡ outcome (Refused (ShortBuffer 2)) b → Loads s t b
+  nodes_short : length b.nodes < 3 * s.counts.nodes → loading_sound s t b ≡ outcome (Err (ShortBuffer 1)) b → Loads s t b
+  operands_short : 3 * s.counts.nodes ≤ length b.nodes → length b.operands < s.counts.operands → loading_sound s t b ≡ outcome (Err (ShortBuffer 2)) b → Loads s t b
   roots_short : 3 * s.counts.nodes ≤ length b.nodes → s.counts.operands ≤ length b.operands → length b.roots < s.counts.roots
-      → loading_sound s t b ≡ outcome (Refused (ShortBuffer 3)) b → Loads s t b
-  all_long : Lent s.counts (length b.nodes) (length b.operands) (length b.roots) → loading_sound s t b ≡ outcome (Sound s) (holding t b) → Loads s t b
+      → loading_sound s t b ≡ outcome (Err (ShortBuffer 3)) b → Loads s t b
+  all_long : Lent s.counts (length b.nodes) (length b.operands) (length b.roots) → loading_sound s t b ≡ outcome (Ok s) (holding t b) → Loads s t b
 
 module _ (s : Summary) (t : Contents) (b : Tables) where
   by_roots : 3 * s.counts.nodes ≤ length b.nodes → s.counts.operands ≤ length b.operands → Loads s t b

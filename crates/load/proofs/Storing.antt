@@ -1,5 +1,6 @@
 -- The second pass: each turn finds a whole record with room for it, and the tables end up holding the file's contents.
 -- Assumes nothing.
+use Rattle.std.specs.Prelude.{Result, Ok, Err}
 use Prim.Native.Nat.{ℕ, zero, suc, ◌+◌, ◌-◌, ◌*◌, ◌<◌, ◌≤◌}
 use native.Mathlib.Omega.{arith}
 use mathlib.Core.Path.{◌≡◌, refl, sym, ap, ◌∙◌}
@@ -23,15 +24,13 @@ use Rattle.record.specs.declared.Summary.{Summary}
 use Rattle.record.specs.declared.Cursor.{Cursor}
 use Rattle.record.specs.declared.Mark.{Mark}
 use Rattle.record.specs.declared.Values.{Values}
-use Rattle.record.specs.declared.Step.{Step}
-use Rattle.record.specs.declared.Step.TheVariants.{Next, Refused}
-use Rattle.record.specs.declared.Judged.TheVariants as judgment
 use Rattle.record.proofs.Steps.{next_passed, next_within, passed_fields}
 use Rattle.record.proofs.Judging.{read-refused, read_next, verdict_same, contents_of, sound-is}
 use Rattle.load.specs.Tables.{Tables, over, holding}
 use Rattle.load.specs.Store.{placed, stored, stored_from}
 use Rattle.load.specs.Room.{Fits, Stands}
 use Rattle.load.proofs.Laws.{sizes}
+use Rattle.theory.specs.declared.Refusal.{Refusal}
 
 -- the cursor past the record at the cursor
 abbrev pub next_cursor : List ℕ → Cursor → Cursor
@@ -40,7 +39,7 @@ next_cursor file c =
 
 -- ---- counts only grow, so a file that fits has room at every record
 
-lent_less : (file : List ℕ) (c next : Cursor) (x y z : ℕ) → judged file c ≡ Next next → Lent next.counts x y z → Lent c.counts x y z
+lent_less : (file : List ℕ) (c next : Cursor) (x y z : ℕ) → judged file c ≡ Ok next → Lent next.counts x y z → Lent c.counts x y z
 lent_less file c next x y z e l =
     let p = next_passed file c next e in
     let f = (passed_fields c (mark_at file c.at) (counts_after c.counts (mark_at file c.at) (values_of file c.at (mark_at file c.at))) (record_end file c.at (mark_at file c.at))).2 in
@@ -65,18 +64,18 @@ unfolding read_from verdict
 fits_lent file c t zero x y z f = ended-lent c t x y z f
 fits_lent file c t (suc n) x y z f = go (eqb c.at (length file)) (judged file c) refl (λ next. fits_lent file next (joined t (of_next file c)) n x y z) f
   where
-    go : (b : Bool) (s : Step) → judged file c ≡ s
+    go : (b : Bool) (s : Result Cursor Refusal) → judged file c ≡ s
         → ((next : Cursor) → Fits (verdict (read_from file next (joined t (of_next file c)) n)) x y z → Lent next.counts x y z)
-        → Fits (verdict (cond b (ended c t) (elim s [ Next next ↦ read_from file next (joined t (of_next file c)) n | Refused r ↦ refused r ]))) x y z
+        → Fits (verdict (cond b (ended c t) (elim s [ Ok next ↦ read_from file next (joined t (of_next file c)) n | Err r ↦ refused r ]))) x y z
         → Lent c.counts x y z
     go true s e ih h = ended-lent c t x y z h
-    go false (Next next) e ih h = lent_less file c next x y z e (ih next h)
-    go false (Refused r) e ih h = absurd h
+    go false (Ok next) e ih h = lent_less file c next x y z e (ih next h)
+    go false (Err r) e ih h = absurd h
 
 -- ---- one turn
 
 pub record Turn (file : List ℕ) (c : Cursor) (x y z : ℕ) : Type 0 where
-  pub goes : judged file c ≡ Next (next_cursor file c)
+  pub goes : judged file c ≡ Ok (next_cursor file c)
   pub fits : Fits (verdict (read_from file (next_cursor file c) nothing (length file - (next_cursor file c).records))) x y z
   pub marked : c.at + 2 ≤ length file
   pub whole : record_end file c.at (mark_at file c.at) ≤ length file
@@ -90,15 +89,15 @@ turn file c x y z w h f = go (judged file c) refl
     left : length file - c.records ≡ suc (length file - (c.records + 1))
     left = omega (arith, w.records)
 
-    go : (s : Step) → judged file c ≡ s → Turn file c x y z
-    go (Refused r) e = absurd (rw (left, read-refused file c nothing (length file - (c.records + 1)) r h e) at f)
-    go (Next next) e =
+    go : (s : Result Cursor Refusal) → judged file c ≡ s → Turn file c x y z
+    go (Err r) e = absurd (rw (left, read-refused file c nothing (length file - (c.records + 1)) r h e) at f)
+    go (Ok next) e =
         let p = next_passed file c next e in
         let q = next_within file c next e w in
         let g = rw (left, read_next file c nothing (length file - (c.records + 1)) next h e, verdict_same file next (joined nothing (of_next file c)) nothing (length file - (c.records + 1)), p.next_is) at f in
         let l = fits_lent file (next_cursor file c) nothing (length file - (c.records + 1)) x y z g in
         record {
-          goes = e ∙ ap Next p.next_is;
+          goes = e ∙ ap Ok p.next_is;
           fits = rw (passed_fields c (mark_at file c.at) (counts_after c.counts (mark_at file c.at) (values_of file c.at (mark_at file c.at))) (record_end file c.at (mark_at file c.at))).1 g;
           marked = omega (arith, q.1, q.0.at);
           whole = p.whole;
@@ -129,7 +128,7 @@ module _ (file : List ℕ) (c : Cursor) (mark : Mark) (v : Values) (x y z : ℕ)
 
 -- the loop of `store_all`: `whole` is what is left to do
 module _ (file : List ℕ) (c : Cursor) (b whole : Tables) (rest : whole ≡ stored_from file c b (length file - c.records)) where
-  pub store_go : Within (length file) c → c.at < length file → judged file c ≡ Next (next_cursor file c)
+  pub store_go : Within (length file) c → c.at < length file → judged file c ≡ Ok (next_cursor file c)
       → whole ≡ stored_from file (next_cursor file c) (stored file c b) (length file - (next_cursor file c).records)
   unfolding stored_from
   store_go w h e =
@@ -157,7 +156,7 @@ pub record Sized (c : Cursor) (t : Contents) : Type 0 where
   pub operands : length t.operands ≡ c.counts.operands
   pub roots : length t.roots ≡ c.counts.roots
 
-pub sized_next : (file : List ℕ) (c next : Cursor) (t : Contents) → judged file c ≡ Next next → Sized c t → Sized next (joined t (of_next file c))
+pub sized_next : (file : List ℕ) (c next : Cursor) (t : Contents) → judged file c ≡ Ok next → Sized c t → Sized next (joined t (of_next file c))
 unfolding of_next
 sized_next file c next t e z =
     let p = next_passed file c next e in
@@ -195,17 +194,17 @@ stored_contents file c t u s b zero z e = ap (λ v. holding v b) (ended_contents
 stored_contents file c t u s b (suc n) z e =
     go (eqb c.at (length file)) (judged file c) refl (λ next. stored_contents file next (joined t (of_next file c)) u s b n) e
   where
-    go : (q : Bool) (x : Step) → judged file c ≡ x
+    go : (q : Bool) (x : Result Cursor Refusal) → judged file c ≡ x
         → ((next : Cursor) → Sized next (joined t (of_next file c)) → read_from file next (joined t (of_next file c)) n ≡ sound s u
         → stored_from file next (holding (joined t (of_next file c)) b) n ≡ holding u b)
-        → cond q (ended c t) (elim x [ Next next ↦ read_from file next (joined t (of_next file c)) n | Refused r ↦ refused r ]) ≡ sound s u
-        → cond q (holding t b) (elim x [ Next next ↦ stored_from file next (stored file c (holding t b)) n | Refused r ↦ holding t b ]) ≡ holding u b
+        → cond q (ended c t) (elim x [ Ok next ↦ read_from file next (joined t (of_next file c)) n | Err r ↦ refused r ]) ≡ sound s u
+        → cond q (holding t b) (elim x [ Ok next ↦ stored_from file next (stored file c (holding t b)) n | Err r ↦ holding t b ]) ≡ holding u b
     go true x j ih h = ap (λ v. holding v b) (ended_contents c t u s h)
-    go false (Next next) j ih h = rw (stored-holding file c t b z) (ih next (sized_next file c next t j z) h)
-    go false (Refused r) j ih h = let k : ◌≡◌ {A = ℕ} 0 1 = cc in absurd (omega arith)
+    go false (Ok next) j ih h = rw (stored-holding file c t b z) (ih next (sized_next file c next t j z) h)
+    go false (Err r) j ih h = let k : ◌≡◌ {A = ℕ} 0 1 = cc in absurd (omega arith)
 
 -- the tables that `store_all` leaves
-pub tables_hold : (file : List ℕ) (s : Summary) (b : Tables) → verdict (theory_file file) ≡ judgment.Sound s
+pub tables_hold : (file : List ℕ) (s : Summary) (b : Tables) → verdict (theory_file file) ≡ Ok s
     → stored_from file start b (length file) ≡ holding (contents_of (theory_file file)) b
 unfolding theory_file over
 tables_hold file s b e =

@@ -1,5 +1,6 @@
 -- The theory in the tables that `load` leaves is the theory of the file, whatever stands behind it in them.
 -- Assumes nothing.
+use Rattle.std.specs.Prelude.{Ok}
 use Prim.Native.Nat.{ℕ, ◌+◌, ◌<◌, ◌≤◌}
 use native.Mathlib.Omega.{arith}
 use mathlib.Core.Path.{◌≡◌, refl, sym, ap, fun_ext, ◌∙◌}
@@ -20,7 +21,6 @@ use Rattle.record.specs.File.{sound, theory_file}
 use Rattle.record.specs.declared.Summary.{Summary}
 use Rattle.load.specs.Tables.{Tables, over, holding}
 use Rattle.load.specs.Loading.{loading}
-use Rattle.load.specs.declared.Loaded.TheVariants.{Sound}
 use Rattle.load.proofs.Formed.{Formed, node_front, span-front}
 use Rattle.load.proofs.Admitted.{formed_whole, loaded_sound}
 
@@ -69,7 +69,7 @@ holding-theory file s u b e =
       root_nodes = take-append-le s.counts.roots u.roots _ (omega (arith, w.1.roots_long));
     }
 
-pub loaded_theory : (file : List ℕ) (s : Summary) (u : Contents) (b : Tables) → theory_file file ≡ sound s u → (loading (theory_file file) b).answer ≡ Sound s
+pub loaded_theory : (file : List ℕ) (s : Summary) (u : Contents) (b : Tables) → theory_file file ≡ sound s u → (loading (theory_file file) b).answer ≡ Ok s
     → SameTheory s.counts (loading (theory_file file) b).left u
 unfolding loading
 loaded_theory file s u b e h =

@@ -1,12 +1,11 @@
 -- The second pass over a sound file: the words of each record put in their place.
 -- Assumes nothing.
-use Rattle.std.specs.Prelude.{ℕ, zero, suc, ◌+◌, ◌*◌, cond, List, [], ◌∷◌, ◌++◌, eqb, length, take, drop}
+use Rattle.std.specs.Prelude.{ℕ, zero, suc, ◌+◌, ◌*◌, cond, List, [], ◌∷◌, ◌++◌, eqb, length, take, drop, Ok, Err}
 use Rattle.record.specs.Record.{judged}
 use Rattle.record.specs.Contents.{of_next}
 use Rattle.record.specs.declared.Cursor.{Cursor}
 use Rattle.record.specs.declared.Mark.{Mark}
 use Rattle.record.specs.declared.Mark.TheVariants.{Theory, Atom, False, Implies, And, Or, Root, Candidate, Unknown}
-use Rattle.record.specs.declared.Step.TheVariants.{Next, Refused}
 use Rattle.load.specs.Tables.{Tables}
 use Rattle.load.specs.declared.Added.{Added}
 use Rattle.load.specs.declared.Added.TheVariants.{Nothing, Node}
@@ -57,4 +56,4 @@ unfoldable pub stored_from : List ℕ → Cursor → Tables → ℕ → Tables
 stored_from file c b zero = b
 stored_from file c b (suc n) =
     cond (eqb c.at (length file)) b
-    (elim (judged file c) [ Next next ↦ stored_from file next (stored file c b) n | Refused r ↦ b ])
+    (elim (judged file c) [ Ok next ↦ stored_from file next (stored file c b) n | Err r ↦ b ])

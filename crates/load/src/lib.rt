@@ -165,30 +165,30 @@ pub fn load_sound(
     nodes: &mut [u32],
     operands: &mut [u32],
     roots: &mut [u32],
-) -> Loaded
-    requires { verdict (theory_file file.now) ≡ Judged.Sound s }
+) -> Result<Summary, Refusal>
+    requires { verdict (theory_file file.now) ≡ Ok s }
     ensures { outcome result (tables nodes.new operands.new roots.new) ≡ loading (theory_file file.now) (tables nodes.old operands.old roots.old) }
 {
     if nodes.len() < 3 * s.counts.nodes {
-        return Loaded::Refused(Refusal::ShortBuffer(1));
+        return Err(Refusal::ShortBuffer(1));
     }
     if operands.len() < s.counts.operands {
-        return Loaded::Refused(Refusal::ShortBuffer(2));
+        return Err(Refusal::ShortBuffer(2));
     }
     if roots.len() < s.counts.roots {
-        return Loaded::Refused(Refusal::ShortBuffer(3));
+        return Err(Refusal::ShortBuffer(3));
     }
     store_all(file, nodes, operands, roots);
-    Loaded::Sound(s)
+    Ok(s)
 }
 
 // The tables of the file, written to the front of buffers 1, 2 and 3; or why not, with nothing altered.
-pub fn load(file: &[u8], nodes: &mut [u32], operands: &mut [u32], roots: &mut [u32]) -> Loaded
+pub fn load(file: &[u8], nodes: &mut [u32], operands: &mut [u32], roots: &mut [u32]) -> Result<Summary, Refusal>
     ensures { outcome result (tables nodes.new operands.new roots.new) ≡ loading (theory_file file.now) (tables nodes.old operands.old roots.old) }
 {
     match record::judge(file) {
-        Judged::Sound(s) => load_sound(file, s, nodes, operands, roots),
-        Judged::Refused(r) => Loaded::Refused(r),
+        Ok(s) => load_sound(file, s, nodes, operands, roots),
+        Err(r) => Err(r),
     }
 }
 

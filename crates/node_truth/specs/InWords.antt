@@ -1,19 +1,16 @@
 -- What the words of a kept evaluation say of a node and of an atom, and the cases of `Seen`.
 -- Assumes nothing.
-use Rattle.std.specs.Prelude.{ℕ, ◌+◌, ◌/◌, ◌%◌, Bool, true, false, not, cond, ◌&&◌, ◌||◌, List, eqb, ltb, leb, get_or}
-use Rattle.std.proofs.Math.Option.{Option, some, none}
+use Rattle.std.specs.Prelude.{ℕ, ◌+◌, ◌/◌, ◌%◌, Bool, true, false, not, cond, ◌&&◌, ◌||◌, List, eqb, ltb, leb, get_or, Option, Some, None}
 use Rattle.theory.specs.Node.{span}
 use Rattle.theory.specs.declared.Counts.{Counts}
 use Rattle.words.specs.Bit.{bit}
 use Rattle.kept.specs.Seen.{group_seen}
 use Rattle.kept_laws.specs.Given.{candidate_at}
-use Rattle.node_truth.specs.declared.Seen.{Seen}
-use Rattle.node_truth.specs.declared.Seen.TheVariants.{True, False, Stray}
 
-abbrev pub seen_of : Seen → Option Bool
-seen_of True = some true
-seen_of False = some false
-seen_of Stray = none
+abbrev pub seen_of : Option Bool → Option Bool
+seen_of (Some true) = Some true
+seen_of (Some false) = Some false
+seen_of None = None
 
 -- node o is true
 unfoldable pub true_in : List ℕ → ℕ → Bool
@@ -25,12 +22,12 @@ present_in t ws a = bit (get_or ws (candidate_at t + a / 32) 0) (a % 32)
 
 -- atom a as a node
 unfoldable pub atom_seen : Counts → List ℕ → ℕ → Option Bool
-atom_seen t ws a = cond (ltb a t.atoms) (some (present_in t ws a)) none
+atom_seen t ws a = cond (ltb a t.atoms) (Some (present_in t ws a)) None
 
 -- Implies at node k
 unfoldable pub implies_seen : ℕ → (ℕ → Bool) → ℕ → ℕ → Option Bool
-implies_seen k v l r = cond (ltb l k && ltb r k) (some (not (v l) || v r)) none
+implies_seen k v l r = cond (ltb l k && ltb r k) (Some (not (v l) || v r)) None
 
 -- And or Or, in a table of `size` entries
 unfoldable pub span_seen : ℕ → ℕ → (ℕ → Bool) → Bool → List ℕ → ℕ → ℕ → Option Bool
-span_seen size k v d operands start count = cond (leb (start + count) size) (group_seen k v d (span operands start count)) none
+span_seen size k v d operands start count = cond (leb (start + count) size) (group_seen k v d (span operands start count)) None

@@ -2,7 +2,6 @@
 #![tactic(auto)]
 
 ghost use Rattle.std.specs.Prelude.{◌≡◌, true, false, not, ◌+◌, ◌*◌, ◌-◌, ◌<◌, ◌≤◌, length};
-ghost use Rattle.std.proofs.Math.Option.{some};
 ghost use Rattle.theory.specs.Limits.{Limited};
 ghost use Rattle.theory.specs.Node.{node_at, span};
 ghost use Rattle.kept.specs.Seen.{group_seen, node_seen};
@@ -20,10 +19,10 @@ pub enum Seen {
     Stray,
 }
 
-fn known(holds: bool) -> Seen
-    ensures { seen_of result ≡ some holds }
+fn known(holds: bool) -> Option<bool>
+    ensures { seen_of result ≡ Some holds }
 {
-    if holds { Seen::True } else { Seen::False }
+    if holds { Some(true) } else { Some(false) }
 }
 
 // Whether node o is true.
@@ -51,7 +50,7 @@ fn group_truth(
     start: usize,
     count: usize,
     decisive: bool,
-) -> Seen
+) -> Option<bool>
     requires { (start + count ≤ length operands.now) × (8 + k ≤ length kept.now) }
     ensures { seen_of result ≡ group_seen k (true_in kept.now) decisive (span operands.now start count) }
 {
@@ -60,7 +59,7 @@ fn group_truth(
     while i < end {
         let o = words::word(operands, i);
         if o >= k {
-            return Seen::Stray;
+            return None;
         }
         if holds(kept, o) == decisive {
             return known(decisive);
@@ -166,7 +165,7 @@ fn large_truth(
     start: usize,
     count: usize,
     decisive: bool,
-) -> Seen
+) -> Option<bool>
     requires { (start + count ≤ length operands.now) × (8 + k ≤ length kept.now) }
     ensures { seen_of result ≡ group_seen k (true_in kept.now) decisive (span operands.now start count) }
 {
@@ -175,7 +174,7 @@ fn large_truth(
 }
 
 // And or Or of two operands: both are read, so that no branch goes by a truth, unless one is not below k.
-fn pair_truth(operands: &[u32], kept: &[u32], k: usize, start: usize, decisive: bool) -> Seen
+fn pair_truth(operands: &[u32], kept: &[u32], k: usize, start: usize, decisive: bool) -> Option<bool>
     requires { (start + 2 ≤ length operands.now) × (8 + k ≤ length kept.now) }
     ensures { seen_of result ≡ group_seen k (true_in kept.now) decisive (span operands.now start 2) }
 {
@@ -201,7 +200,7 @@ pub fn span_truth(
     start: usize,
     count: usize,
     decisive: bool,
-) -> Seen
+) -> Option<bool>
     requires { (size ≤ length operands.now) × (start < 4294967296) × (count < 4294967296) × (8 + k ≤ length kept.now) }
     ensures { seen_of result ≡ span_seen size k (true_in kept.now) decisive operands.now start count }
 {
@@ -209,7 +208,7 @@ pub fn span_truth(
     let operands = &operands[..];
     let kept = &kept[..];
     if start + count > size {
-        return Seen::Stray;
+        return None;
     }
     if count == 2 {
         return pair_truth(operands, kept, k, start, decisive);
@@ -221,26 +220,26 @@ pub fn span_truth(
 }
 
 // Atom a.
-pub fn atom_truth(counts: Counts, kept: &[u32], a: usize) -> Seen
+pub fn atom_truth(counts: Counts, kept: &[u32], a: usize) -> Option<bool>
     requires { Limited counts × (used_by counts ≤ length kept.now) }
     ensures { seen_of result ≡ atom_seen counts kept.now a }
 {
     if a >= counts.atoms {
-        return Seen::Stray;
+        return None;
     }
     known(present(counts, kept, a))
 }
 
 // Implies of left and right, at node k.
-pub fn implies_truth(kept: &[u32], k: usize, left: usize, right: usize) -> Seen
+pub fn implies_truth(kept: &[u32], k: usize, left: usize, right: usize) -> Option<bool>
     requires { 8 + k ≤ length kept.now }
     ensures { seen_of result ≡ implies_seen k (true_in kept.now) left right }
 {
     if left >= k {
-        return Seen::Stray;
+        return None;
     }
     if right >= k {
-        return Seen::Stray;
+        return None;
     }
     // both are read, so that no branch goes by a truth
     let l = holds(kept, left);
@@ -249,7 +248,7 @@ pub fn implies_truth(kept: &[u32], k: usize, left: usize, right: usize) -> Seen
 }
 
 // Node k.
-pub fn node_truth(counts: Counts, nodes: &[u32], operands: &[u32], kept: &[u32], k: usize) -> Seen
+pub fn node_truth(counts: Counts, nodes: &[u32], operands: &[u32], kept: &[u32], k: usize) -> Option<bool>
     requires { Limited counts × (k < counts.nodes) × (3 * counts.nodes ≤ length nodes.now) × (counts.operands ≤ length operands.now) × (used_by counts ≤ length kept.now) }
     ensures { seen_of result ≡ node_seen counts operands.now (present_in counts kept.now) (true_in kept.now) k (node_at nodes.now k) }
 {
@@ -261,10 +260,10 @@ pub fn node_truth(counts: Counts, nodes: &[u32], operands: &[u32], kept: &[u32],
     }
     match theory::view(nodes, k) {
         Node::Atom(a) => atom_truth(counts, kept, a),
-        Node::False => Seen::False,
+        Node::False => Some(false),
         Node::Implies(left, right) => implies_truth(kept, k, left, right),
         Node::And(s, c) => span_truth(operands, counts.operands, kept, k, s, c, false),
         Node::Or(s, c) => span_truth(operands, counts.operands, kept, k, s, c, true),
-        Node::Unknown => Seen::Stray,
+        Node::Unknown => None,
     }
 }

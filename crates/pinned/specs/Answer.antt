@@ -1,20 +1,18 @@
 -- What the user of a public call sees of its answer: document 01's numbers of a refusal, or what was accepted.
 -- Assumes nothing.
-use Rattle.std.specs.Prelude.{ℕ, List, replicate}
+use Rattle.std.specs.Prelude.{ℕ, List, replicate, Result, Ok, Err}
 use Rattle.theory.specs.declared.Counts.{Counts}
 use Rattle.theory.specs.Refusal.{told}
 use Rattle.record.specs.File.{theory_file}
 use Rattle.load.specs.Tables.{tables}
 use Rattle.load.specs.Loading.{loading}
-use Rattle.load.specs.declared.Loaded.{Loaded}
-use Rattle.load.specs.declared.Loaded.TheVariants as loading-answers
 use Rattle.plan.specs.Outcome.{plan_outcome, certify_outcome}
-use Rattle.plan.specs.declared.Planning.{Planning}
-use Rattle.plan.specs.declared.Planning.TheVariants as planning-answers
 use Rattle.kept.specs.Tables.{Tables}
 use Rattle.kept.specs.Candidate.{Candidate}
 use Rattle.kept.specs.Verdict.{Verdict}
 use Rattle.kept.specs.Outcome as checking
+use Rattle.theory.specs.declared.Refusal.{Refusal}
+use Rattle.record.specs.declared.Summary.{Summary}
 
 -- number, place and, for 11, body; the producers of a plan; the verdict and the nodes gone over
 pub data Answer : Type 0 where
@@ -28,9 +26,9 @@ zeros n = replicate n 0
 
 -- ---- load
 
-abbrev pub loaded_as : Loaded → Answer
-loaded_as (loading-answers.Sound s) = loaded
-loaded_as (loading-answers.Refused r) = refused (told r)
+abbrev pub loaded_as : Result Summary Refusal → Answer
+loaded_as (Ok s) = loaded
+loaded_as (Err r) = refused (told r)
 
 -- of a file, into tables of so many words
 abbrev pub load : List ℕ → ℕ → ℕ → ℕ → Answer
@@ -51,9 +49,9 @@ pub record Room : Type 0 where
   pub readers : ℕ
   pub work : ℕ
 
-abbrev pub planned_as : Planning → Answer
-planned_as (planning-answers.Planned p) = planned p
-planned_as (planning-answers.Refused r) = refused (told r)
+abbrev pub planned_as : Result ℕ Refusal → Answer
+planned_as (Ok p) = planned p
+planned_as (Err r) = refused (told r)
 
 abbrev pub plan : Theory → Room → Answer
 plan t b = planned_as (plan_outcome t.counts t.nodes t.operands t.roots (zeros b.producers) (zeros b.ranks) (zeros b.readers) (zeros b.work)).answer

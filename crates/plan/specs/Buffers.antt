@@ -1,13 +1,12 @@
 -- Refusal 9: the lowest lent buffer that is shorter than listed. 1 nodes, 2 operands, 3 roots, 4 producers, 5 ranks, 6 readers, 8 work area.
 -- Assumes nothing.
-use Rattle.std.specs.Prelude.{ℕ, ◌+◌, ◌*◌, ◌≤◌, ◌≡◌, cond, ltb}
+use Rattle.std.specs.Prelude.{ℕ, ◌+◌, ◌*◌, ◌≤◌, ◌≡◌, cond, ltb, Err}
 use Rattle.std.proofs.Common.{ltb-false}
 use Rattle.theory.specs.LimitsLaws.{passed}
 use Rattle.theory.specs.declared.Counts.{Counts}
-use Rattle.theory.specs.declared.Admission.{Admission}
-use Rattle.theory.specs.declared.Admission.TheVariants.{Admitted, Refused}
 use Rattle.theory.specs.declared.Refusal.TheVariants.{ShortBuffer}
 use Rattle.plan.specs.declared.Lengths.{Lengths}
+use Rattle.theory.specs.Admission.{Admission, admitted}
 
 abbrev pub readers_length : Counts → ℕ
 readers_length t = 2 + t.atoms + 4 * t.nodes + t.operands + 2 * t.roots
@@ -17,13 +16,13 @@ work_length t = 16 + 5 * (t.atoms + t.nodes) + 3 * (t.operands + t.nodes + t.roo
 
 unfoldable pub short_buffer : Counts → Lengths → Admission
 short_buffer t l =
-    cond (ltb l.nodes (3 * t.nodes)) (Refused (ShortBuffer 1))
-    (cond (ltb l.operands t.operands) (Refused (ShortBuffer 2))
-    (cond (ltb l.roots t.roots) (Refused (ShortBuffer 3))
-    (cond (ltb l.producers (4 * t.roots)) (Refused (ShortBuffer 4))
-    (cond (ltb l.ranks t.atoms) (Refused (ShortBuffer 5))
-    (cond (ltb l.readers (readers_length t)) (Refused (ShortBuffer 6))
-    (cond (ltb l.work (work_length t)) (Refused (ShortBuffer 8)) Admitted))))))
+    cond (ltb l.nodes (3 * t.nodes)) (Err (ShortBuffer 1))
+    (cond (ltb l.operands t.operands) (Err (ShortBuffer 2))
+    (cond (ltb l.roots t.roots) (Err (ShortBuffer 3))
+    (cond (ltb l.producers (4 * t.roots)) (Err (ShortBuffer 4))
+    (cond (ltb l.ranks t.atoms) (Err (ShortBuffer 5))
+    (cond (ltb l.readers (readers_length t)) (Err (ShortBuffer 6))
+    (cond (ltb l.work (work_length t)) (Err (ShortBuffer 8)) admitted))))))
 
 -- every one is long enough
 pub record LongEnough (t : Counts) (l : Lengths) : Type 0 where
@@ -37,7 +36,7 @@ pub record LongEnough (t : Counts) (l : Lengths) : Type 0 where
 
 -- ---- what an admission gives
 
-pub long_enough : (t : Counts) (l : Lengths) → short_buffer t l ≡ Admitted → LongEnough t l
+pub long_enough : (t : Counts) (l : Lengths) → short_buffer t l ≡ admitted → LongEnough t l
 unfolding short_buffer
 long_enough t l e =
     let a = passed (ltb l.nodes (3 * t.nodes)) _ _ e in

@@ -1,20 +1,18 @@
 -- The public calls: from the buffers as lent to an entered theory.
 -- Assumes nothing.
-use Rattle.std.specs.Prelude.{ℕ, ◌≡◌, refl, Bool, true, false, cond, ◌&&◌, List, eqb, length, take, replicate}
+use Rattle.std.specs.Prelude.{ℕ, ◌≡◌, refl, Bool, true, false, cond, ◌&&◌, List, eqb, length, take, replicate, Ok, Err}
 use Rattle.std.proofs.Common.{arith, ◌∙◌, take_all, eqb-true, ⊎_elim}
 use Rattle.std.proofs.Math.Path.{ap, sym}
 use Rattle.std.proofs.lemmas.List.{length-replicate, get_or-replicate}
 use Rattle.std.proofs.Math.ListN.{get_or-eq_default}
 use Rattle.base.specs.Tests.{both_left, below_or}
-use Rattle.theory.specs.Admission.{or_else, admission, all_below}
+use Rattle.theory.specs.Admission.{or_else, admission, all_below, Admission, admitted}
 use Rattle.theory.specs.Limits.{limits_of}
 use Rattle.theory.specs.Refusals.{not_both, or_else_left, or-else-right}
 use Rattle.theory.proofs.Admitted.{admitted_formed, starts_within}
 use Rattle.theory.specs.declared.Counts.{Counts}
 use Rattle.theory.specs.declared.Refusal.{Refusal}
 use Rattle.theory.specs.declared.Refusal.TheVariants.{RankShape}
-use Rattle.theory.specs.declared.Admission.{Admission}
-use Rattle.theory.specs.declared.Admission.TheVariants as admitted
 use Rattle.compile.specs.ClassWord.{class_words}
 use Rattle.compile.specs.Producers.{roots_supported}
 use Rattle.ranks.specs.RankCheck.{rank_order, rank_check}
@@ -24,20 +22,19 @@ use Rattle.plan.specs.Judged.{judged, derived, acyclic, plan_judged, certify_jud
 use Rattle.plan.specs.Outcome.{Outcome, outcome, planned, lengths, plan_outcome, certify_outcome}
 use Rattle.plan.specs.JudgedIn.{Zero}
 use Rattle.plan.specs.Finished.{Entered, ranked_by, derived_ranks, accepted_by}
-use Rattle.plan.specs.declared.Planning.TheVariants.{Refused}
 
 or_else_assoc : (a b c : Admission) → or_else (or_else a b) c ≡ or_else a (or_else b c)
-or_else_assoc admitted.Admitted b c = refl
-or_else_assoc (admitted.Refused r) b c = refl
+or_else_assoc (Ok u) b c = refl
+or_else_assoc (Err r) b c = refl
 
 -- a rank check that accepts has one rank an atom
-pub accepted-long : (t : Counts) (nodes operands roots proposed : List ℕ) → accepted_by t nodes operands roots proposed ≡ admitted.Admitted → length proposed ≡ t.atoms
+pub accepted-long : (t : Counts) (nodes operands roots proposed : List ℕ) → accepted_by t nodes operands roots proposed ≡ admitted → length proposed ≡ t.atoms
 unfolding accepted_by rank_check
 accepted-long t nodes operands roots proposed e =
     go (eqb (length proposed) t.atoms && all_below t.atoms proposed) refl (or-else-right (roots_supported t nodes operands (class_words nodes operands t.nodes) roots) _ e)
   where
     go : (b : Bool) → (eqb (length proposed) t.atoms && all_below t.atoms proposed) ≡ b
-        → cond b (rank_order t nodes operands (class_words nodes operands t.nodes) roots proposed) (admitted.Refused RankShape) ≡ admitted.Admitted → length proposed ≡ t.atoms
+        → cond b (rank_order t nodes operands (class_words nodes operands t.nodes) roots proposed) (Err RankShape) ≡ admitted → length proposed ≡ t.atoms
     go true i q = eqb-true (length proposed) t.atoms (both_left (eqb (length proposed) t.atoms) (all_below t.atoms proposed) i)
     go false i q = absurd (not_both RankShape q)
 
@@ -51,8 +48,8 @@ zero_list n = record { at = λ k. ⊎_elim (λ l. get_or-replicate {A = ℕ} n k
 module _ (t : Counts) (nodes operands roots : List ℕ) where
   again : (ps rs us ws : List ℕ) (j : Admission) (ranked : List ℕ) → planned t nodes operands roots ps rs us (replicate (length ws) 0) j ranked ≡ planned t nodes operands roots ps rs us ws j ranked
   unfolding planned
-  again ps rs us ws admitted.Admitted ranked = rw (length-replicate {A = ℕ} (length ws) 0)
-  again ps rs us ws (admitted.Refused r) ranked = rw (length-replicate {A = ℕ} (length ws) 0)
+  again ps rs us ws (Ok u) ranked = rw (length-replicate {A = ℕ} (length ws) 0)
+  again ps rs us ws (Err r) ranked = rw (length-replicate {A = ℕ} (length ws) 0)
 
 module _ (t : Counts) (nodes operands roots ps rs us ws : List ℕ) where
   -- what `enter` answers
@@ -70,19 +67,19 @@ module _ (t : Counts) (nodes operands roots ps rs us ws : List ℕ) where
       ∙ sym (or_else_assoc (limits_of t) _ _)
 
   module _ (a : Admission) (e : a ≡ or_else (limits_of t) (or_else (short_buffer t (lengths t nodes operands roots ps rs us ws)) (admission t nodes operands roots))) where
-    pub plan_refused : (r : Refusal) → a ≡ admitted.Refused r → outcome (Refused r) ps rs us (replicate (length ws) 0) ≡ plan_outcome t nodes operands roots ps rs us ws
+    pub plan_refused : (r : Refusal) → a ≡ Err r → outcome (Err r) ps rs us (replicate (length ws) 0) ≡ plan_outcome t nodes operands roots ps rs us ws
     unfolding plan_outcome planned plan_judged
     plan_refused r q = rw (split (acyclic t nodes operands roots (derived t nodes operands roots)), sym e ∙ q)
 
-    pub certify_refused : (proposed : List ℕ) (r : Refusal) → a ≡ admitted.Refused r → outcome (Refused r) ps rs us (replicate (length ws) 0) ≡ certify_outcome t nodes operands roots proposed ps rs us ws
+    pub certify_refused : (proposed : List ℕ) (r : Refusal) → a ≡ Err r → outcome (Err r) ps rs us (replicate (length ws) 0) ≡ certify_outcome t nodes operands roots proposed ps rs us ws
     unfolding certify_outcome planned certify_judged
     certify_refused proposed r q = rw (split (rank_check t nodes operands (class_words nodes operands t.nodes) roots proposed), sym e ∙ q)
 
-    module _ (q : a ≡ admitted.Admitted) where
-      all : or_else (limits_of t) (or_else (short_buffer t (lengths t nodes operands roots ps rs us ws)) (admission t nodes operands roots)) ≡ admitted.Admitted
+    module _ (q : a ≡ admitted) where
+      all : or_else (limits_of t) (or_else (short_buffer t (lengths t nodes operands roots ps rs us ws)) (admission t nodes operands roots)) ≡ admitted
       all = sym e ∙ q
 
-      tail : or_else (short_buffer t (lengths t nodes operands roots ps rs us ws)) (admission t nodes operands roots) ≡ admitted.Admitted
+      tail : or_else (short_buffer t (lengths t nodes operands roots ps rs us ws)) (admission t nodes operands roots) ≡ admitted
       tail = or-else-right (limits_of t) _ all
 
       pub is_entered : Entered t nodes operands roots (length ps) (length rs) (length us) (replicate (length ws) 0)

@@ -1,15 +1,13 @@
 -- A planning call once its theory is entered: what it asks, and what it leaves.
 -- Assumes nothing.
-use Rattle.std.specs.Prelude.{ℕ, ◌+◌, ◌*◌, ◌-◌, ◌≤◌, ◌≡◌, refl, List, ◌++◌, length, take, drop, replicate}
+use Rattle.std.specs.Prelude.{ℕ, ◌+◌, ◌*◌, ◌-◌, ◌≤◌, ◌≡◌, refl, List, ◌++◌, length, take, drop, replicate, Ok, Err}
 use Rattle.std.proofs.Common.{arith, ap, sym, ◌∙◌, length-drop, get_or-drop, take-take, drop-drop, length-take-le}
 use Rattle.base.specs.Front.{front}
-use Rattle.theory.specs.Admission.{or_else, span_start}
+use Rattle.theory.specs.Admission.{or_else, span_start, Admission, admitted}
 use Rattle.theory.specs.Limits.{Limited}
 use Rattle.theory.specs.WellFormed.{NodeTables, RootTable}
 use Rattle.theory.specs.declared.Counts.{Counts}
 use Rattle.theory.specs.declared.Refusal.{Refusal}
-use Rattle.theory.specs.declared.Admission.{Admission}
-use Rattle.theory.specs.declared.Admission.TheVariants as admission
 use Rattle.compile.specs.ClassWord.{class_words}
 use Rattle.compile.specs.Producers.{roots_supported, producers_before, producer_words}
 use Rattle.readers.specs.ReaderTable.{built}
@@ -21,7 +19,6 @@ use Rattle.plan.specs.Buffers.{readers_length, work_length}
 use Rattle.plan.specs.Judged.{derived, acyclic}
 use Rattle.plan.specs.Outcome.{outcome, planned, ranks_of}
 use Rattle.plan.specs.JudgedIn.{Zero}
-use Rattle.plan.specs.declared.Planning.TheVariants.{Planned, Refused}
 
 -- what `finish` leaves
 pub record Finished (t : Counts) (nodes operands roots classes source ps rs us ps' rs' us' : List ℕ) (p : ℕ) : Type 0 where
@@ -53,15 +50,15 @@ module _ (t : Counts) (nodes operands roots : List ℕ) where
   accepted_by proposed = or_else (roots_supported t nodes operands (class_words nodes operands t.nodes) roots) (rank_check t nodes operands (class_words nodes operands t.nodes) roots proposed)
 
   module _ (ps rs us work : List ℕ) where
-    pub planned_refused : (j : Admission) (ranked : List ℕ) (r : Refusal) (last : List ℕ) → length last ≡ length work → j ≡ admission.Refused r
-        → outcome (Refused r) ps rs us (replicate (length last) 0) ≡ planned t nodes operands roots ps rs us work j ranked
+    pub planned_refused : (j : Admission) (ranked : List ℕ) (r : Refusal) (last : List ℕ) → length last ≡ length work → j ≡ Err r
+        → outcome (Err r) ps rs us (replicate (length last) 0) ≡ planned t nodes operands roots ps rs us work j ranked
     unfolding planned
     planned_refused j ranked r last l e = rw (e, l)
 
-    pub planned_done : (j : Admission) (ranked classes source ps' rs' us' last : List ℕ) (p : ℕ) → length last ≡ length work → j ≡ admission.Admitted
+    pub planned_done : (j : Admission) (ranked classes source ps' rs' us' last : List ℕ) (p : ℕ) → length last ≡ length work → j ≡ admitted
         → classes ≡ class_words nodes operands t.nodes → take t.atoms source ≡ ranked
         → Finished t nodes operands roots classes source ps rs us ps' rs' us' p
-        → outcome (Planned p) ps' rs' us' (replicate (length last) 0) ≡ planned t nodes operands roots ps rs us work j ranked
+        → outcome (Ok p) ps' rs' us' (replicate (length last) 0) ≡ planned t nodes operands roots ps rs us work j ranked
     unfolding planned
     planned_done j ranked classes source ps' rs' us' last p l e c s f =
         rw (e, f.readers, f.producers, f.ranks, f.number, s, c, l)

@@ -1,12 +1,10 @@
 -- The refusals of planning in document 01's order: 3 by counts, 9, then 1, 6, 4, 5 by node and 7 by root, 10 and 11 by root, then 12, or 13 and 14.
 -- Assumes nothing.
-use Rattle.std.specs.Prelude.{ℕ, ◌+◌, List}
+use Rattle.std.specs.Prelude.{ℕ, ◌+◌, List, Err}
 use Rattle.graph.specs.Derive.{Derived, ranks, cycle, derive}
 use Rattle.theory.specs.Limits.{limits_of}
-use Rattle.theory.specs.Admission.{or_else, admission}
+use Rattle.theory.specs.Admission.{or_else, admission, Admission, admitted}
 use Rattle.theory.specs.declared.Counts.{Counts}
-use Rattle.theory.specs.declared.Admission.{Admission}
-use Rattle.theory.specs.declared.Admission.TheVariants.{Admitted, Refused}
 use Rattle.theory.specs.declared.Refusal.TheVariants.{PositiveCycle}
 use Rattle.compile.specs.ClassWord.{class_words}
 use Rattle.compile.specs.Producers.{roots_supported}
@@ -28,8 +26,8 @@ module _ (t : Counts) (nodes operands roots : List ℕ) where
   derived = derive t.atoms (t.atoms + t.nodes) (dependencies t nodes operands classes roots)
 
   abbrev pub acyclic : Derived → Admission
-  acyclic (ranks rs) = Admitted
-  acyclic (cycle a) = Refused (PositiveCycle a)
+  acyclic (ranks rs) = admitted
+  acyclic (cycle a) = Err (PositiveCycle a)
 
   -- of `plan`, and of `certify` with proposed ranks
   unfoldable pub plan_judged : Lengths → Admission

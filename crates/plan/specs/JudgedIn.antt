@@ -1,15 +1,13 @@
 -- What judging in the work area answers, and what then stands there.
 -- Assumes nothing.
-use Rattle.std.specs.Prelude.{ℕ, ◌+◌, ◌*◌, ◌≡◌, List, ◌++◌, get_or, take, drop}
+use Rattle.std.specs.Prelude.{ℕ, ◌+◌, ◌*◌, ◌≡◌, List, ◌++◌, get_or, take, drop, Err}
 use Rattle.std.proofs.Common.{arith, sym, ◌∙◌, length-append, length-drop, get_or-drop}
 use Rattle.graph.specs.Derive.{ranks, cycle, derive}
-use Rattle.theory.specs.Admission.{or_else}
+use Rattle.theory.specs.Admission.{or_else, Admission, admitted}
 use Rattle.theory.specs.Refusals.{not_both}
 use Rattle.theory.specs.declared.Counts.{Counts}
 use Rattle.theory.specs.declared.Refusal.{Refusal}
 use Rattle.theory.specs.declared.Refusal.TheVariants.{PositiveCycle}
-use Rattle.theory.specs.declared.Admission.{Admission}
-use Rattle.theory.specs.declared.Admission.TheVariants.{Admitted, Refused}
 use Rattle.compile.specs.ClassWord.{class_words}
 use Rattle.compile.specs.Producers.{roots_supported}
 use Rattle.kahn.specs.Area.{part}
@@ -29,22 +27,22 @@ pub record Zero (area : List ℕ) : Type 0 where
 
 pub record DerivedIn (t : Counts) (nodes operands roots area : List ℕ) (r : Admission) : Type 0 where
   pub answer : r ≡ or_else (roots_supported t nodes operands (class_words nodes operands t.nodes) roots) (acyclic t nodes operands roots (derived t nodes operands roots))
-  pub classes : r ≡ Admitted → take t.nodes area ≡ class_words nodes operands t.nodes
-  pub ranked : r ≡ Admitted → part (t.nodes + 2 * (t.atoms + t.nodes)) t.atoms area ≡ ranks_of t nodes operands roots (derived t nodes operands roots)
+  pub classes : r ≡ admitted → take t.nodes area ≡ class_words nodes operands t.nodes
+  pub ranked : r ≡ admitted → part (t.nodes + 2 * (t.atoms + t.nodes)) t.atoms area ≡ ranks_of t nodes operands roots (derived t nodes operands roots)
 
 pub record ProposedIn (t : Counts) (nodes operands roots proposed area : List ℕ) (r : Admission) : Type 0 where
   pub answer : r ≡ or_else (roots_supported t nodes operands (class_words nodes operands t.nodes) roots) (rank_check t nodes operands (class_words nodes operands t.nodes) roots proposed)
-  pub classes : r ≡ Admitted → take t.nodes area ≡ class_words nodes operands t.nodes
+  pub classes : r ≡ admitted → take t.nodes area ≡ class_words nodes operands t.nodes
 
 module _ (t : Counts) (nodes operands roots : List ℕ) where
-  module _ (area : List ℕ) (x : Refusal) (s : Admission) (e : s ≡ roots_supported t nodes operands (class_words nodes operands t.nodes) roots) (q : s ≡ Refused x) where
-    pub derived_unsupported : DerivedIn t nodes operands roots area (Refused x)
+  module _ (area : List ℕ) (x : Refusal) (s : Admission) (e : s ≡ roots_supported t nodes operands (class_words nodes operands t.nodes) roots) (q : s ≡ Err x) where
+    pub derived_unsupported : DerivedIn t nodes operands roots area (Err x)
     derived_unsupported = record { answer = rw (sym e ∙ q); classes = λ z. absurd (not_both x z); ranked = λ z. absurd (not_both x z) }
 
-    pub proposed_unsupported : (proposed : List ℕ) → ProposedIn t nodes operands roots proposed area (Refused x)
+    pub proposed_unsupported : (proposed : List ℕ) → ProposedIn t nodes operands roots proposed area (Err x)
     proposed_unsupported proposed = record { answer = rw (sym e ∙ q); classes = λ z. absurd (not_both x z) }
 
-  module _ (area after : List ℕ) (s : Admission) (e : s ≡ roots_supported t nodes operands (class_words nodes operands t.nodes) roots) (q : s ≡ Admitted)
+  module _ (area after : List ℕ) (s : Admission) (e : s ≡ roots_supported t nodes operands (class_words nodes operands t.nodes) roots) (q : s ≡ admitted)
       (p : after ≡ class_words nodes operands t.nodes ++ drop t.nodes area) where
     pub ready_after : Ready t nodes operands roots (t.atoms + t.nodes) area → Ready t nodes operands roots (t.atoms + t.nodes) after
     ready_after r =
@@ -68,7 +66,7 @@ module _ (t : Counts) (nodes operands roots : List ℕ) where
       unfolding derived
       is_derived = rw (prepared_front t nodes operands area after p) at a
 
-      pub derived_ranks_lem : d ≡ Ranks → DerivedIn t nodes operands roots last Admitted
+      pub derived_ranks_lem : d ≡ Ranks → DerivedIn t nodes operands roots last admitted
       derived_ranks_lem w =
           let here : ranks (part (t.nodes + 2 * (t.atoms + t.nodes)) t.atoms last) ≡ derived t nodes operands roots = rw w at is_derived in
           record {
@@ -77,7 +75,7 @@ module _ (t : Counts) (nodes operands roots : List ℕ) where
             ranked = λ z. rw (← here);
           }
 
-      pub derived_cycle : (c : ℕ) → d ≡ Cycle c → DerivedIn t nodes operands roots last (Refused (PositiveCycle c))
+      pub derived_cycle : (c : ℕ) → d ≡ Cycle c → DerivedIn t nodes operands roots last (Err (PositiveCycle c))
       derived_cycle c w =
           let here : cycle c ≡ derived t nodes operands roots = rw w at is_derived in
           record { answer = rw (sym e ∙ q, ← here); classes = λ z. absurd (not_both _ z); ranked = λ z. absurd (not_both _ z) }

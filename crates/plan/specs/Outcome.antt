@@ -1,28 +1,26 @@
 -- The whole outcome of a planning call: its answer and every word of buffers 4, 5, 6 and 8.
 -- Assumes nothing.
-use Rattle.std.specs.Prelude.{ℕ, List, [], length, replicate}
+use Rattle.std.specs.Prelude.{ℕ, List, [], length, replicate, Result, Ok, Err}
 use Rattle.base.specs.Front.{front}
 use Rattle.graph.specs.Derive.{Derived, ranks, cycle}
 use Rattle.theory.specs.declared.Counts.{Counts}
-use Rattle.theory.specs.declared.Admission.{Admission}
-use Rattle.theory.specs.declared.Admission.TheVariants as admission
 use Rattle.compile.specs.ClassWord.{class_words}
 use Rattle.compile.specs.Producers.{producers_before, producer_words}
 use Rattle.compile.specs.declared.Producer.{Producer}
 use Rattle.readers.specs.ReaderTable.{built}
 use Rattle.plan.specs.declared.Lengths.{Lengths}
 use Rattle.plan.specs.Judged.{derived, plan_judged, certify_judged}
-use Rattle.plan.specs.declared.Planning.{Planning}
-use Rattle.plan.specs.declared.Planning.TheVariants.{Planned, Refused}
+use Rattle.theory.specs.Admission.{Admission}
+use Rattle.theory.specs.declared.Refusal.{Refusal}
 
 pub record Outcome : Type 0 where
-  pub answer : Planning
+  pub answer : Result ℕ Refusal
   pub producers : List ℕ
   pub ranks : List ℕ
   pub readers : List ℕ
   pub work : List ℕ
 
-abbrev pub outcome : Planning → List ℕ → List ℕ → List ℕ → List ℕ → Outcome
+abbrev pub outcome : Result ℕ Refusal → List ℕ → List ℕ → List ℕ → List ℕ → Outcome
 outcome a ps rs us ws = record { answer = a; producers = ps; ranks = rs; readers = us; work = ws }
 
 -- the work area is zero after every call
@@ -36,10 +34,10 @@ module _ (t : Counts) (nodes operands roots : List ℕ) where
 
   -- buffers ps, rs, us, ws; the ranks of the plan, if it is admitted
   unfoldable pub planned : List ℕ → List ℕ → List ℕ → List ℕ → Admission → List ℕ → Outcome
-  planned ps rs us ws admission.Admitted ranked =
-      outcome (Planned (length producers_of)) (front (producer_words producers_of) ps) (front ranked rs)
+  planned ps rs us ws (Ok u) ranked =
+      outcome (Ok (length producers_of)) (front (producer_words producers_of) ps) (front ranked rs)
       (built t nodes operands roots (front (producer_words producers_of) ps) (length producers_of) us) (zeroed ws)
-  planned ps rs us ws (admission.Refused r) ranked = outcome (Refused r) ps rs us (zeroed ws)
+  planned ps rs us ws (Err r) ranked = outcome (Err r) ps rs us (zeroed ws)
 
   abbrev pub ranks_of : Derived → List ℕ
   ranks_of (ranks rs) = rs

@@ -1,6 +1,6 @@
 -- The producers that are written: their number, and their bodies as words.
 -- Assumes nothing.
-use Rattle.std.specs.Prelude.{ℕ, zero, suc, ◌+◌, ◌*◌, ◌<◌, ◌≤◌, ◌≡◌, refl, List, [], ◌∷◌, ◌++◌, length, get_or, take}
+use Rattle.std.specs.Prelude.{ℕ, zero, suc, ◌+◌, ◌*◌, ◌<◌, ◌≤◌, ◌≡◌, refl, List, [], ◌∷◌, ◌++◌, length, get_or, take, Option, Some, None, Result, Ok, Err}
 use Rattle.std.proofs.Common.{arith, get_or-take, length-take-le}
 use Rattle.base.specs.Each.{Each, at_each, each_append}
 use Rattle.base.specs.Front.{front}
@@ -11,16 +11,15 @@ use Rattle.compile.specs.Producer.{produced}
 use Rattle.compile.specs.Producers.{made_by, producers, producers_before, producer_words}
 use Rattle.compile.specs.ProducersLaws.{few-producers}
 use Rattle.compile.specs.declared.Producer.{Producer}
-use Rattle.compile.specs.declared.Produced.{Produced}
-use Rattle.compile.specs.declared.Produced.TheVariants.{Nothing, Made, Refused}
 use Rattle.compile.proofs.RootFormula.{producer_bounded}
 use Rattle.readers.specs.Planned.{Planned}
+use Rattle.theory.specs.declared.Refusal.{Refusal}
 
-made_body : (t : Counts) (nodes operands classes : List ℕ) → NodeTables t nodes operands → (k : ℕ) → k < t.nodes → (m : Produced) → produced nodes operands classes k ≡ m → Each (λ p. p.body ≤ t.nodes) (made_by m)
+made_body : (t : Counts) (nodes operands classes : List ℕ) → NodeTables t nodes operands → (k : ℕ) → k < t.nodes → (m : Result (Option Producer) Refusal) → produced nodes operands classes k ≡ m → Each (λ p. p.body ≤ t.nodes) (made_by m)
 unfolding made_by
-made_body t nodes operands classes tables k l Nothing e = tt
-made_body t nodes operands classes tables k l (Made p) e = ((producer_bounded t nodes operands classes tables k l p e).body_in_lem, tt)
-made_body t nodes operands classes tables k l (Refused r) e = tt
+made_body t nodes operands classes tables k l (Ok None) e = tt
+made_body t nodes operands classes tables k l (Ok (Some p)) e = ((producer_bounded t nodes operands classes tables k l p e).body_in_lem, tt)
+made_body t nodes operands classes tables k l (Err r) e = tt
 
 bodies : (t : Counts) (nodes operands classes ks : List ℕ) → NodeTables t nodes operands → Each (λ k. k < t.nodes) ks → Each (λ p. p.body ≤ t.nodes) (producers nodes operands classes ks)
 unfolding producers

@@ -38,47 +38,47 @@ pub struct Lengths {
 }
 
 // Refusal 9.
-fn short_buffer(counts: Counts, l: Lengths) -> Admission
+fn short_buffer(counts: Counts, l: Lengths) -> Result<(), Refusal>
     requires { Limited counts }
     ensures { result ≡ short_buffer counts l }
 {
     if l.nodes < 3 * counts.nodes {
-        return Admission::Refused(Refusal::ShortBuffer(1));
+        return Err(Refusal::ShortBuffer(1));
     }
     if l.operands < counts.operands {
-        return Admission::Refused(Refusal::ShortBuffer(2));
+        return Err(Refusal::ShortBuffer(2));
     }
     if l.roots < counts.roots {
-        return Admission::Refused(Refusal::ShortBuffer(3));
+        return Err(Refusal::ShortBuffer(3));
     }
     if l.producers < 4 * counts.roots {
-        return Admission::Refused(Refusal::ShortBuffer(4));
+        return Err(Refusal::ShortBuffer(4));
     }
     if l.ranks < counts.atoms {
-        return Admission::Refused(Refusal::ShortBuffer(5));
+        return Err(Refusal::ShortBuffer(5));
     }
     if l.readers < readers::table_words(counts) {
-        return Admission::Refused(Refusal::ShortBuffer(6));
+        return Err(Refusal::ShortBuffer(6));
     }
     if l.work
         < 16 + 5 * (counts.atoms + counts.nodes)
             + 3 * (counts.operands + counts.nodes + counts.roots)
     {
-        return Admission::Refused(Refusal::ShortBuffer(8));
+        return Err(Refusal::ShortBuffer(8));
     }
-    Admission::Admitted
+    Ok(())
 }
 
 // Refusals 3, 9, then 1, 6, 4, 5 by node and 7 by root.
-fn enter(counts: Counts, nodes: &[u32], operands: &[u32], roots: &[u32], l: Lengths) -> Admission
+fn enter(counts: Counts, nodes: &[u32], operands: &[u32], roots: &[u32], l: Lengths) -> Result<(), Refusal>
     requires { (l.nodes ≡ length nodes.now) × (l.operands ≡ length operands.now) × (l.roots ≡ length roots.now) }
     ensures { result ≡ or_else (limits_of counts) (or_else (short_buffer counts l) (admission counts nodes.now operands.now roots.now)) }
 {
-    if let Admission::Refused(r) = theory::limits(counts) {
-        return Admission::Refused(r);
+    if let Err(r) = theory::limits(counts) {
+        return Err(r);
     }
-    if let Admission::Refused(r) = short_buffer(counts, l) {
-        return Admission::Refused(r);
+    if let Err(r) = short_buffer(counts, l) {
+        return Err(r);
     }
     theory::admit(counts, nodes, operands, roots)
 }
@@ -90,7 +90,7 @@ fn prepare(
     operands: &[u32],
     roots: &[u32],
     area: &mut [u32],
-) -> Admission
+) -> Result<(), Refusal>
     requires { (counts.nodes ≤ length area.old) × NodeTables counts nodes.now operands.now × RootTable counts roots.now }
     ensures { (result ≡ roots_supported counts nodes.now operands.now (class_words nodes.now operands.now counts.nodes) roots.now) × (area.new ≡ class_words nodes.now operands.now counts.nodes ++ drop counts.nodes area.old) }
 {
@@ -118,18 +118,18 @@ fn judge_derived(
     operands: &[u32],
     roots: &[u32],
     area: &mut [u32],
-) -> Admission
+) -> Result<(), Refusal>
     requires { Ready counts nodes.now operands.now roots.now (counts.atoms + counts.nodes) area.old × Zero area.old }
     ensures { DerivedIn counts nodes.now operands.now roots.now area.new result }
 {
     let supported = prepare(counts, nodes, operands, roots, area);
-    if let Admission::Refused(r) = supported {
-        return Admission::Refused(r);
+    if let Err(r) = supported {
+        return Err(r);
     }
     let v = counts.atoms + counts.nodes;
     match dependency::derive_ranks(counts, nodes, operands, roots, area, v) {
-        Derivation::Ranks => Admission::Admitted,
-        Derivation::Cycle(a) => Admission::Refused(Refusal::PositiveCycle(a)),
+        Derivation::Ranks => Ok(()),
+        Derivation::Cycle(a) => Err(Refusal::PositiveCycle(a)),
     }
 }
 
@@ -141,13 +141,13 @@ fn judge_proposed(
     roots: &[u32],
     proposed: &[u32],
     area: &mut [u32],
-) -> Admission
+) -> Result<(), Refusal>
     requires { Ready counts nodes.now operands.now roots.now (counts.atoms + counts.nodes) area.old }
     ensures { ProposedIn counts nodes.now operands.now roots.now proposed.now area.new result }
 {
     let supported = prepare(counts, nodes, operands, roots, area);
-    if let Admission::Refused(r) = supported {
-        return Admission::Refused(r);
+    if let Err(r) = supported {
+        return Err(r);
     }
     let n = counts.nodes;
     ranks::rank_check(counts, nodes, operands, roots, proposed, area, n)
@@ -204,14 +204,14 @@ fn plan_entered(
     ranks: &mut [u32],
     readers: &mut [u64],
     work: &mut [u32],
-) -> Planning
+) -> Result<usize, Refusal>
     requires { Entered counts nodes.now operands.now roots.now (length producers.old) (length ranks.old) (length readers.old) work.old }
     ensures { outcome result producers.new ranks.new readers.new work.new ≡ planned counts nodes.now operands.now roots.now producers.old ranks.old readers.old work.old (ranked_by counts nodes.now operands.now roots.now) (derived_ranks counts nodes.now operands.now roots.now) }
 {
     let judged = judge_derived(counts, nodes, operands, roots, &mut work[16..]);
-    if let Admission::Refused(r) = judged {
+    if let Err(r) = judged {
         words::clear(work);
-        return Planning::Refused(r);
+        return Err(r);
     }
     let end = 16 + counts.nodes;
     let at = end + 2 * (counts.atoms + counts.nodes);
@@ -227,7 +227,7 @@ fn plan_entered(
         readers,
     );
     words::clear(work);
-    Planning::Planned(p)
+    Ok(p)
 }
 
 // An entered theory with proposed ranks.
@@ -241,14 +241,14 @@ fn certify_entered(
     ranks: &mut [u32],
     readers: &mut [u64],
     work: &mut [u32],
-) -> Planning
+) -> Result<usize, Refusal>
     requires { Entered counts nodes.now operands.now roots.now (length producers.old) (length ranks.old) (length readers.old) work.old }
     ensures { outcome result producers.new ranks.new readers.new work.new ≡ planned counts nodes.now operands.now roots.now producers.old ranks.old readers.old work.old (accepted_by counts nodes.now operands.now roots.now proposed.now) proposed.now }
 {
     let judged = judge_proposed(counts, nodes, operands, roots, proposed, &mut work[16..]);
-    if let Admission::Refused(r) = judged {
+    if let Err(r) = judged {
         words::clear(work);
-        return Planning::Refused(r);
+        return Err(r);
     }
     let end = 16 + counts.nodes;
     let p = finish(
@@ -263,7 +263,7 @@ fn certify_entered(
         readers,
     );
     words::clear(work);
-    Planning::Planned(p)
+    Ok(p)
 }
 
 // Plans a theory: producers, ranks and reader lists, or the refusal; the work area is zero after every call.
@@ -276,7 +276,7 @@ pub fn plan(
     ranks: &mut [u32],
     readers: &mut [u64],
     work: &mut [u32],
-) -> Planning
+) -> Result<usize, Refusal>
     ensures { outcome result producers.new ranks.new readers.new work.new ≡ plan_outcome counts nodes.now operands.now roots.now producers.old ranks.old readers.old work.old }
 {
     words::clear(work);
@@ -289,8 +289,8 @@ pub fn plan(
         readers: readers.len(),
         work: work.len(),
     };
-    if let Admission::Refused(r) = enter(counts, nodes, operands, roots, l) {
-        return Planning::Refused(r);
+    if let Err(r) = enter(counts, nodes, operands, roots, l) {
+        return Err(r);
     }
     plan_entered(
         counts, nodes, operands, roots, producers, ranks, readers, work,
@@ -308,7 +308,7 @@ pub fn certify(
     ranks: &mut [u32],
     readers: &mut [u64],
     work: &mut [u32],
-) -> Planning
+) -> Result<usize, Refusal>
     ensures { outcome result producers.new ranks.new readers.new work.new ≡ certify_outcome counts nodes.now operands.now roots.now proposed.now producers.old ranks.old readers.old work.old }
 {
     words::clear(work);
@@ -321,8 +321,8 @@ pub fn certify(
         readers: readers.len(),
         work: work.len(),
     };
-    if let Admission::Refused(r) = enter(counts, nodes, operands, roots, l) {
-        return Planning::Refused(r);
+    if let Err(r) = enter(counts, nodes, operands, roots, l) {
+        return Err(r);
     }
     certify_entered(
         counts, nodes, operands, roots, proposed, producers, ranks, readers, work,

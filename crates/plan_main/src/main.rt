@@ -125,14 +125,14 @@ fn show_lists(rt: &impl Print, table: &[u64], n: usize) -> io::Result<()> {
 
 fn show(
     rt: &impl Print,
-    planning: Planning,
+    planning: Result<usize, Refusal>,
     counts: Counts,
     producers: &[u32],
     ranks: &[u32],
     table: &[u64],
 ) -> io::Result<()> {
     match planning {
-        Planning::Planned(p) => {
+        Ok(p) => {
             rt.write_all(b"producers")?;
             put(rt, p)?;
             end_line(rt)?;
@@ -141,7 +141,7 @@ fn show(
             show_words(rt, ranks, counts.atoms)?;
             show_lists(rt, table, counts.nodes)?;
         }
-        Planning::Refused(r) => show_refused(rt, r)?,
+        Err(r) => show_refused(rt, r)?,
     }
     Ok(())
 }

@@ -1,5 +1,6 @@
 -- What holds of every dependency: a law for each kind of edge gives it for all.
 -- Assumes nothing.
+use Rattle.std.specs.Prelude.{Option, Some, None, Result, Ok, Err}
 use Prim.Native.Nat.{ℕ, zero, suc, ◌+◌, ◌<◌}
 use native.Mathlib.Omega.{arith}
 use mathlib.Core.Path.{◌≡◌, refl}
@@ -15,9 +16,8 @@ use Rattle.theory.specs.declared.Node.{Node}
 use Rattle.theory.specs.declared.Node.TheVariants.{Atom, False, Implies, And, Or, Unknown}
 use Rattle.compile.specs.Producer.{produced}
 use Rattle.compile.specs.declared.Producer.{Producer}
-use Rattle.compile.specs.declared.Produced.{Produced}
-use Rattle.compile.specs.declared.Produced.TheVariants.{Nothing, Made, Refused}
 use Rattle.ranks.specs.Dependency.{positive, only, operand_edges, node_edges, body_edges, produced_edges, edges_into, edges_of, dependencies}
+use Rattle.theory.specs.declared.Refusal.{Refusal}
 
 -- a node is an And or an Or over these operands
 pub data Group (operands : List ℕ) : Node → List ℕ → Type 0 where
@@ -25,8 +25,8 @@ pub data Group (operands : List ℕ) : Node → List ℕ → Type 0 where
   of_or : {s c : ℕ} → Group operands (Or s c) (span operands s c)
 
 -- a root's producer has the body b
-pub record Rule (made : Produced) (b : ℕ) (p : Producer) : Type 0 where
-  pub is : made ≡ Made p
+pub record Rule (made : Result (Option Producer) Refusal) (b : ℕ) (p : Producer) : Type 0 where
+  pub is : made ≡ Ok (Some p)
   pub body : p.body ≡ suc b
 
 module _ (P : Edge → Type 0) where
@@ -105,10 +105,10 @@ module _ (P : Edge → Type 0) where
         (each_gather P (edges_into t.atoms nodes operands classes) t.nodes (λ k l. node_each t.atoms operands classes k (node_at nodes k) (f k l)))
         (each_gather P (edges_of t.atoms nodes operands classes roots) t.roots (λ i l. made i l (produced nodes operands classes (get_or roots i 0)) refl))
       where
-        made : (i : ℕ) → i < t.roots → (m : Produced) → produced nodes operands classes (get_or roots i 0) ≡ m → Each P (produced_edges t.atoms classes m)
-        made i l Nothing e = tt
-        made i l (Made p) e = body_each t.atoms classes p.head p.body (λ b q. g i l b p (record { is = e; body = q }))
-        made i l (Refused r) e = tt
+        made : (i : ℕ) → i < t.roots → (m : Result (Option Producer) Refusal) → produced nodes operands classes (get_or roots i 0) ≡ m → Each P (produced_edges t.atoms classes m)
+        made i l (Ok None) e = tt
+        made i l (Ok (Some p)) e = body_each t.atoms classes p.head p.body (λ b q. g i l b p (record { is = e; body = q }))
+        made i l (Err r) e = tt
 
     module _ (all : Each P (dependencies t nodes operands classes roots)) where
       pub each_into : (k : ℕ) → k < t.nodes → IntoNode t.atoms operands classes k (node_at nodes k)

@@ -1,5 +1,6 @@
 -- Supported roots and accepted ranks make a plan in the papers' sense, and its theory is that of the tables.
 -- Assumes nothing.
+use Rattle.std.specs.Prelude.{Option, Some, None, Result, Ok, Err}
 use Prim.Native.Nat.{ℕ, ◌<◌}
 use native.Mathlib.Numerals.{add-one}
 use native.Mathlib.Omega.{arith}
@@ -20,19 +21,18 @@ use Rattle.theory.specs.WellFormed.{NodeTables, RootTable, WellFormed}
 use Rattle.theory.specs.Refusals.{not_both, none_refused}
 use Rattle.theory.proofs.Meaning.{class_at}
 use Rattle.theory.specs.declared.Counts.{Counts}
-use Rattle.theory.specs.declared.Admission.TheVariants as admission
 use Rattle.compile.specs.ClassWord.{class_word, class_words}
 use Rattle.compile.specs.Producer.{produced}
 use Rattle.compile.specs.Producers.{refused_by, supported_at, roots_supported}
 use Rattle.compile.specs.Roots.{root_of, roots_of, MadeOf, from-fact, from-rule, NothingOf, from_constraint, from_denial, made_of, nothing_of}
 use Rattle.compile.specs.declared.Producer.{Producer}
-use Rattle.compile.specs.declared.Produced.{Produced}
-use Rattle.compile.specs.declared.Produced.TheVariants.{Nothing, Made, Refused}
 use Rattle.compile.proofs.RootFormula.{producer_bounded}
 use Rattle.ranks.specs.Classed.{Classed}
 use Rattle.ranks.specs.RankCheck.{rank_check}
 use Rattle.ranks.proofs.Accepted.{positive_is}
 use Rattle.ranks.proofs.Ranks.{rule_ordered}
+use Rattle.theory.specs.Admission.{admitted}
+use Rattle.theory.specs.declared.Refusal.{Refusal}
 
 -- class words as classes
 word_opaque : (c : Class) → c ≡ opaque → class_word c ≡ 2
@@ -47,8 +47,8 @@ planned_list r f [] h = tt
 planned_list r f (k ∷ ks) h = (h.0, planned_list r f ks h.1)
 
 module _ (t : Counts) (nodes operands classes roots : List ℕ) (well : WellFormed t nodes operands roots) (tables : NodeTables t nodes operands) (listed : RootTable t roots)
-    (classed : Classed t nodes operands classes) (supported : roots_supported t nodes operands classes roots ≡ admission.Admitted) where
-  root_admitted : (i : ℕ) → i < t.roots → refused_by (produced nodes operands classes (get_or roots i 0)) ≡ admission.Admitted
+    (classed : Classed t nodes operands classes) (supported : roots_supported t nodes operands classes roots ≡ admitted) where
+  root_admitted : (i : ℕ) → i < t.roots → refused_by (produced nodes operands classes (get_or roots i 0)) ≡ admitted
   unfolding roots_supported supported_at
   root_admitted i l = none_refused _ 0 t.roots supported i (omega arith) (omega arith)
 
@@ -60,7 +60,7 @@ module _ (t : Counts) (nodes operands classes roots : List ℕ) (well : WellForm
       let low : i < t.roots = omega (arith, length-take-le t.roots roots listed.roots_long) in
       rw (get_or-take t.roots roots i 0 low) (h i low))
 
-  module _ (rs : List ℕ) (accepted : rank_check t nodes operands classes roots rs ≡ admission.Admitted) where
+  module _ (rs : List ℕ) (accepted : rank_check t nodes operands classes roots rs ≡ admitted) where
     rank : ℕ → ℕ
     rank a = get_or rs a 0
 
@@ -70,7 +70,7 @@ module _ (t : Counts) (nodes operands classes roots : List ℕ) (well : WellForm
         h (classed.word b l ∙ get_or-map class_word (node_classes nodes operands t.nodes) b frozen
         ∙ ap class_word (sym (class_at t nodes operands roots well b)) ∙ word_opaque (class (formula t nodes operands b)) e)
 
-    made_planned : (i : ℕ) → i < t.roots → (p : Producer) → produced nodes operands classes (get_or roots i 0) ≡ Made p → (x : Root) → MadeOf (formula t nodes operands) classes p x → PlannedRoot (λ a. get_or rs a 0) x
+    made_planned : (i : ℕ) → i < t.roots → (p : Producer) → produced nodes operands classes (get_or roots i 0) ≡ Ok (Some p) → (x : Root) → MadeOf (formula t nodes operands) classes p x → PlannedRoot (λ a. get_or rs a 0) x
     made_planned i l p e x (from-fact {h} a b) = tt
     made_planned i l p e x (from-rule {b} {h} a c d) =
         let w = producer_bounded t nodes operands classes tables (get_or roots i 0) (well.root i l) p e in
@@ -90,10 +90,10 @@ module _ (t : Counts) (nodes operands classes roots : List ℕ) (well : WellForm
     unfolding refused_by
     root_planned i l = go (produced nodes operands classes (get_or roots i 0)) refl (root_admitted i l)
       where
-        go : (m : Produced) → produced nodes operands classes (get_or roots i 0) ≡ m → refused_by m ≡ admission.Admitted → PlannedRoot (λ a. get_or rs a 0) (root_of t nodes operands (get_or roots i 0))
-        go Nothing e q = nothing-planned _ (nothing_of t nodes operands classes (get_or roots i 0) e)
-        go (Made p) e q = made_planned i l p e _ (made_of t nodes operands classes (get_or roots i 0) p e)
-        go (Refused r) e q = absurd (not_both r q)
+        go : (m : Result (Option Producer) Refusal) → produced nodes operands classes (get_or roots i 0) ≡ m → refused_by m ≡ admitted → PlannedRoot (λ a. get_or rs a 0) (root_of t nodes operands (get_or roots i 0))
+        go (Ok None) e q = nothing-planned _ (nothing_of t nodes operands classes (get_or roots i 0) e)
+        go (Ok (Some p)) e q = made_planned i l p e _ (made_of t nodes operands classes (get_or roots i 0) p e)
+        go (Err r) e q = absurd (not_both r q)
 
     pub planned : Planned (λ a. get_or rs a 0) (roots_of t nodes operands roots)
     unfolding roots_of

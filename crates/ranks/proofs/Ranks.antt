@@ -1,5 +1,6 @@
 -- Once all roots are admitted: derived ranks are the least that the rank check accepts, and a cycle is reported exactly if it accepts none.
 -- Assumes nothing.
+use Rattle.std.specs.Prelude.{Option, Some, None, Result, Ok, Err}
 use Prim.Native.Nat.{ℕ, zero, suc, ◌+◌, ◌<◌, ◌≤◌}
 use native.Mathlib.Omega.{arith}
 use mathlib.Core.Path.{◌≡◌, refl, sym, ◌∙◌}
@@ -29,7 +30,7 @@ use Rattle.theory.specs.Node.{node_at, span}
 use Rattle.theory.specs.NodeClass.{is_false, joined, node_class}
 use Rattle.theory.specs.NodeFormula.{formula}
 use Rattle.theory.specs.NodeRank.{node_highests}
-use Rattle.theory.specs.Admission.{all_below}
+use Rattle.theory.specs.Admission.{all_below, admitted}
 use Rattle.theory.specs.WellFormed.{NodeFormed, NodeTables, WellFormed}
 use Rattle.theory.specs.Spans.{all_below_each, each_all_below}
 use Rattle.theory.specs.Refusals.{not_both, none_refused, all_admitted}
@@ -37,12 +38,9 @@ use Rattle.theory.proofs.Meaning.{class_step, highest_at}
 use Rattle.theory.specs.declared.Counts.{Counts}
 use Rattle.theory.specs.declared.Node.{Node}
 use Rattle.theory.specs.declared.Node.TheVariants.{Atom, False, Implies, And, Or, Unknown}
-use Rattle.theory.specs.declared.Admission.TheVariants as admission
 use Rattle.theory.specs.declared.Refusal.TheVariants.{RankShape, RankOrder}
 use Rattle.compile.specs.Producer.{produced}
 use Rattle.compile.specs.declared.Producer.{Producer}
-use Rattle.compile.specs.declared.Produced.{Produced}
-use Rattle.compile.specs.declared.Produced.TheVariants.{Nothing, Made, Refused}
 use Rattle.compile.proofs.RootFormula.{producer_bounded}
 use Rattle.ranks.specs.Dependency as dependency
 use Rattle.ranks.specs.Dependency.{only, operand_edges, node_edges, edges_into, edges_of, dependencies}
@@ -50,6 +48,7 @@ use Rattle.ranks.specs.Classed.{Classed}
 use Rattle.ranks.specs.RankCheck.{body_order, produced_order, order_at, order_by, rank_order, rank_check}
 use Rattle.ranks.proofs.Edges.{Group, of_and, of_or, Rule, dependencies_each, each_rule}
 use Rattle.ranks.proofs.Accepted.{positive_is, vertex, vertex_atom, order_accepts, high_below}
+use Rattle.theory.specs.declared.Refusal.{Refusal}
 
 graph_strict : {A : ℕ} (s a : ℕ) → a < A → cost A (edge s a) ≡ 1
 graph_strict {A} s a l = rw (lt-ltb a A l)
@@ -178,13 +177,13 @@ module _ (t : Counts) (nodes operands classes roots : List ℕ) (well : WellForm
   record Checked (rs : List ℕ) : Type 0 where
     pub long : length rs ≡ t.atoms
     pub low : Each (λ r. r < t.atoms) rs
-    pub order : (i : ℕ) → i < t.roots → order_at nodes operands classes roots (node_highests (λ a. get_or rs a 0) nodes operands t.nodes) rs i ≡ admission.Admitted
+    pub order : (i : ℕ) → i < t.roots → order_at nodes operands classes roots (node_highests (λ a. get_or rs a 0) nodes operands t.nodes) rs i ≡ admitted
 
-  checked : (rs : List ℕ) → rank_check t nodes operands classes roots rs ≡ admission.Admitted → Checked rs
+  checked : (rs : List ℕ) → rank_check t nodes operands classes roots rs ≡ admitted → Checked rs
   unfolding rank_check rank_order order_by
   checked rs e = go (eqb (length rs) t.atoms && all_below t.atoms rs) refl e
     where
-      go : (c : Bool) → (eqb (length rs) t.atoms && all_below t.atoms rs) ≡ c → cond c (rank_order t nodes operands classes roots rs) (admission.Refused RankShape) ≡ admission.Admitted → Checked rs
+      go : (c : Bool) → (eqb (length rs) t.atoms && all_below t.atoms rs) ≡ c → cond c (rank_order t nodes operands classes roots rs) (Err RankShape) ≡ admitted → Checked rs
       go true i q =
           record {
             long = eqb-true (length rs) t.atoms (both_left (eqb (length rs) t.atoms) (all_below t.atoms rs) i);
@@ -193,14 +192,14 @@ module _ (t : Counts) (nodes operands classes roots : List ℕ) (well : WellForm
           }
       go false i q = absurd (not_both _ q)
 
-  checks : (rs : List ℕ) → Checked rs → rank_check t nodes operands classes roots rs ≡ admission.Admitted
+  checks : (rs : List ℕ) → Checked rs → rank_check t nodes operands classes roots rs ≡ admitted
   unfolding rank_check rank_order order_by
   checks rs c =
       rw (eq-eqb (length rs) t.atoms c.long, each_all_below t.atoms rs c.low)
       (all_admitted _ 0 t.roots (λ i a b. c.order i (omega arith)))
 
   module _ (rs : List ℕ) where
-    body_ordered : (head b : ℕ) → body_order classes (node_highests (λ a. get_or rs a 0) nodes operands t.nodes) rs head (suc b) ≡ admission.Admitted → dependency.positive classes b ≡ true
+    body_ordered : (head b : ℕ) → body_order classes (node_highests (λ a. get_or rs a 0) nodes operands t.nodes) rs head (suc b) ≡ admitted → dependency.positive classes b ≡ true
         → highest (λ a. get_or rs a 0) (formula t nodes operands b) < get_or rs head 0
     unfolding body_order
     body_ordered head b e p = rw (highest_at t nodes operands roots well (λ a. get_or rs a 0) b) (go (ltb (get_or (node_highests (λ a. get_or rs a 0) nodes operands t.nodes) b 0) (get_or rs head 0)) refl)
@@ -210,28 +209,28 @@ module _ (t : Counts) (nodes operands classes roots : List ℕ) (well : WellForm
         go false i = absurd (not_both (RankOrder head) (simp (p, i) at e))
 
     ordered_body : (head b : ℕ) → (dependency.positive classes b ≡ true → highest (λ a. get_or rs a 0) (formula t nodes operands b) < get_or rs head 0)
-        → body_order classes (node_highests (λ a. get_or rs a 0) nodes operands t.nodes) rs head (suc b) ≡ admission.Admitted
+        → body_order classes (node_highests (λ a. get_or rs a 0) nodes operands t.nodes) rs head (suc b) ≡ admitted
     unfolding body_order
     ordered_body head b h = go (dependency.positive classes b) refl
       where
         go : (c : Bool) → dependency.positive classes b ≡ c
-            → cond (c && not (ltb (get_or (node_highests (λ a. get_or rs a 0) nodes operands t.nodes) b 0) (get_or rs head 0))) (admission.Refused (RankOrder head)) admission.Admitted ≡ admission.Admitted
+            → cond (c && not (ltb (get_or (node_highests (λ a. get_or rs a 0) nodes operands t.nodes) b 0) (get_or rs head 0))) (Err (RankOrder head)) admitted ≡ admitted
         go true i = rw (lt-ltb _ _ (rw (highest_at t nodes operands roots well (λ a. get_or rs a 0) b) at (h i)))
         go false i = refl
 
     -- a rule with a Positive body is in order
-    pub rule_ordered : rank_check t nodes operands classes roots rs ≡ admission.Admitted → (i : ℕ) → i < t.roots → (b : ℕ) (p : Producer)
+    pub rule_ordered : rank_check t nodes operands classes roots rs ≡ admitted → (i : ℕ) → i < t.roots → (b : ℕ) (p : Producer)
         → Rule (produced nodes operands classes (get_or roots i 0)) b p → dependency.positive classes b ≡ true → highest (λ a. get_or rs a 0) (formula t nodes operands b) < get_or rs p.head 0
     unfolding order_at produced_order
     rule_ordered e i l b p r = body_ordered p.head b (rw (r.is, r.body) at ((checked rs e).order i l))
 
-    accepted_vertices : rank_check t nodes operands classes roots rs ≡ admission.Admitted → Accepts t.atoms (vertex t nodes operands classes roots well tables classed (λ a. get_or rs a 0)) (dependencies t nodes operands classes roots)
+    accepted_vertices : rank_check t nodes operands classes roots rs ≡ admitted → Accepts t.atoms (vertex t nodes operands classes roots well tables classed (λ a. get_or rs a 0)) (dependencies t nodes operands classes roots)
     accepted_vertices e = order_accepts t nodes operands classes roots well tables classed (λ a. get_or rs a 0) (rule_ordered e)
 
   -- ---- the theorem
 
   pub derived_accepted : (rs : List ℕ) → derive t.atoms (t.atoms + t.nodes) (dependencies t nodes operands classes roots) ≡ ranks rs
-      → rank_check t nodes operands classes roots rs ≡ admission.Admitted
+      → rank_check t nodes operands classes roots rs ≡ admitted
   unfolding order_at produced_order body_order
   derived_accepted rs e =
       checks rs (record {
@@ -255,19 +254,19 @@ module _ (t : Counts) (nodes operands classes roots : List ℕ) (well : WellForm
             graph_strict (t.atoms + b) p.head w.head_in,
           )
 
-      root : (i : ℕ) → i < t.roots → (m : Produced) → produced nodes operands classes (get_or roots i 0) ≡ m
-          → produced_order classes (node_highests (λ a. get_or rs a 0) nodes operands t.nodes) rs m ≡ admission.Admitted
-      root i l Nothing q = refl
-      root i l (Made p) q = body p.body refl
+      root : (i : ℕ) → i < t.roots → (m : Result (Option Producer) Refusal) → produced nodes operands classes (get_or roots i 0) ≡ m
+          → produced_order classes (node_highests (λ a. get_or rs a 0) nodes operands t.nodes) rs m ≡ admitted
+      root i l (Ok None) q = refl
+      root i l (Ok (Some p)) q = body p.body refl
         where
-          body : (b : ℕ) → p.body ≡ b → body_order classes (node_highests (λ a. get_or rs a 0) nodes operands t.nodes) rs p.head b ≡ admission.Admitted
+          body : (b : ℕ) → p.body ≡ b → body_order classes (node_highests (λ a. get_or rs a 0) nodes operands t.nodes) rs p.head b ≡ admitted
           body zero s = refl
           body (suc b) s = ordered_body rs p.head b (rule i l b p (record { is = q; body = s }))
-      root i l (Refused r) q = refl
+      root i l (Err r) q = refl
 
   -- the ranks derived are the least that the check accepts
   pub derived_least : (rs qs : List ℕ) → derive t.atoms (t.atoms + t.nodes) (dependencies t nodes operands classes roots) ≡ ranks rs
-      → rank_check t nodes operands classes roots qs ≡ admission.Admitted → (a : ℕ) → a < t.atoms → get_or rs a 0 ≤ get_or qs a 0
+      → rank_check t nodes operands classes roots qs ≡ admitted → (a : ℕ) → a < t.atoms → get_or rs a 0 ≤ get_or qs a 0
   derived_least rs qs e q a l =
       let best = graph.ranks_right t.atoms (t.atoms + t.nodes) (dependencies t nodes operands classes roots) (omega arith) rises rs e in
       omega (
@@ -293,10 +292,10 @@ module _ (t : Counts) (nodes operands classes roots : List ℕ) (well : WellForm
   cycle_names a = cycles.cycle_names t.atoms (t.atoms + t.nodes) (dependencies t nodes operands classes roots) (omega arith) rises a
 
   pub cycle_exactly : ((a : ℕ) × (derive t.atoms (t.atoms + t.nodes) (dependencies t nodes operands classes roots) ≡ cycle a))
-      ↔ ((rs : List ℕ) → rank_check t nodes operands classes roots rs ≡ admission.Admitted → ⊥)
+      ↔ ((rs : List ℕ) → rank_check t nodes operands classes roots rs ≡ admitted → ⊥)
   cycle_exactly = (λ w rs q. (cycle_stuck w.0 w.1).none _ (accepted_vertices rs q), λ f. go f (derive t.atoms (t.atoms + t.nodes) (dependencies t nodes operands classes roots)) refl)
     where
-      go : ((rs : List ℕ) → rank_check t nodes operands classes roots rs ≡ admission.Admitted → ⊥)
+      go : ((rs : List ℕ) → rank_check t nodes operands classes roots rs ≡ admitted → ⊥)
           → (d : Derived) → derive t.atoms (t.atoms + t.nodes) (dependencies t nodes operands classes roots) ≡ d
           → (a : ℕ) × (derive t.atoms (t.atoms + t.nodes) (dependencies t nodes operands classes roots) ≡ cycle a)
       go f (ranks rs) e = absurd (f rs (derived_accepted rs e))

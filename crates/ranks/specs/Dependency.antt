@@ -1,6 +1,6 @@
 -- The dependencies of a theory, in the order of the Rust's `each_dependency`: atom a is vertex a, node k is vertex A + k; nodes rising, then producers.
 -- Assumes nothing.
-use Rattle.std.specs.Prelude.{ℕ, zero, suc, ◌+◌, Bool, true, false, cond, List, [], ◌∷◌, ◌++◌, eqb, get_or}
+use Rattle.std.specs.Prelude.{ℕ, zero, suc, ◌+◌, Bool, true, false, cond, List, [], ◌∷◌, ◌++◌, eqb, get_or, Option, Some, None, Result, Ok, Err}
 use Rattle.base.specs.Gather.{gather}
 use Rattle.graph.specs.Edge.{Edge, edge}
 use Rattle.theory.specs.Node.{node_at, span}
@@ -8,8 +8,8 @@ use Rattle.theory.specs.declared.Counts.{Counts}
 use Rattle.theory.specs.declared.Node.{Node}
 use Rattle.theory.specs.declared.Node.TheVariants.{Atom, False, Implies, And, Or, Unknown}
 use Rattle.compile.specs.Producer.{produced}
-use Rattle.compile.specs.declared.Produced.{Produced}
-use Rattle.compile.specs.declared.Produced.TheVariants.{Nothing, Made, Refused}
+use Rattle.theory.specs.declared.Refusal.{Refusal}
+use Rattle.compile.specs.declared.Producer.{Producer}
 
 -- a class word is Positive's
 abbrev pub positive : List ℕ → ℕ → Bool
@@ -39,10 +39,10 @@ unfoldable pub body_edges : ℕ → List ℕ → ℕ → ℕ → List Edge
 body_edges A classes head zero = []
 body_edges A classes head (suc b) = only (positive classes b) (edge (A + b) head)
 
-unfoldable pub produced_edges : ℕ → List ℕ → Produced → List Edge
-produced_edges A classes Nothing = []
-produced_edges A classes (Made p) = body_edges A classes p.head p.body
-produced_edges A classes (Refused r) = []
+unfoldable pub produced_edges : ℕ → List ℕ → Result (Option Producer) Refusal → List Edge
+produced_edges A classes (Ok None) = []
+produced_edges A classes (Ok (Some p)) = body_edges A classes p.head p.body
+produced_edges A classes (Err r) = []
 
 -- into node k of the table; of the root at position i
 unfoldable pub edges_into : ℕ → List ℕ → List ℕ → List ℕ → ℕ → List Edge

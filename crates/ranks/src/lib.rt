@@ -72,21 +72,21 @@ fn fill_highest(
 }
 
 // Refusal 14 of one producer: its body's highest rank, behind the first v words, is not below its head's.
-fn body_order(area: &[u32], v: usize, ranks: &[u32], head: usize, body: usize) -> Admission
+fn body_order(area: &[u32], v: usize, ranks: &[u32], head: usize, body: usize) -> Result<(), Refusal>
     requires { (body ≤ v) × (v + body ≤ length area.now) × (head < length ranks.now) }
     ensures { result ≡ body_order (take v area.now) (drop v area.now) ranks.now head body }
 {
     if body == 0 {
-        return Admission::Admitted;
+        return Ok(());
     }
     let b = body - 1;
     if words::word(area, b) != 1 {
-        return Admission::Admitted;
+        return Ok(());
     }
     if words::word(area, v + b) < words::word(ranks, head) {
-        Admission::Admitted
+        Ok(())
     } else {
-        Admission::Refused(Refusal::RankOrder(head))
+        Err(Refusal::RankOrder(head))
     }
 }
 
@@ -95,15 +95,15 @@ fn produced_order(
     area: &[u32],
     v: usize,
     ranks: &[u32],
-    made: Produced,
-) -> Admission
+    made: Result<Option<Producer>, Refusal>,
+) -> Result<(), Refusal>
     requires { (counts.nodes ≤ v) × (v + counts.nodes ≤ length area.now) × (counts.atoms ≤ length ranks.now) × MadeIn counts made }
     ensures { result ≡ produced_order (take v area.now) (drop v area.now) ranks.now made }
 {
     match made {
-        Produced::Nothing => Admission::Admitted,
-        Produced::Made(p) => body_order(area, v, ranks, p.head, p.body),
-        Produced::Refused(_) => Admission::Admitted,
+        Ok(None) => Ok(()),
+        Ok(Some(p)) => body_order(area, v, ranks, p.head, p.body),
+        Err(_) => Ok(()),
     }
 }
 
@@ -116,7 +116,7 @@ fn rank_order(
     ranks: &[u32],
     area: &[u32],
     v: usize,
-) -> Admission
+) -> Result<(), Refusal>
     requires { (counts.nodes ≤ v) × (v + counts.nodes ≤ length area.now) × (counts.atoms ≤ length ranks.now) × NodeTables counts nodes.now operands.now × RootTable counts roots.now }
     ensures { result ≡ order_by counts nodes.now operands.now (take v area.now) roots.now (drop v area.now) ranks.now }
 {
@@ -126,12 +126,12 @@ fn rank_order(
         let root = words::word(roots, i);
         let made = compile::produce(counts, nodes, operands, &area[..v], root);
         let ordered = produced_order(counts, area, v, ranks, made);
-        if let Admission::Refused(r) = ordered {
-            return Admission::Refused(r);
+        if let Err(r) = ordered {
+            return Err(r);
         }
         i += 1;
     }
-    Admission::Admitted
+    Ok(())
 }
 
 // Refusals 13 and 14 of proposed ranks. The class words stand at the front of area; what is behind its first v words is used.
@@ -143,18 +143,18 @@ pub fn rank_check(
     ranks: &[u32],
     area: &mut [u32],
     v: usize,
-) -> Admission
+) -> Result<(), Refusal>
     requires { (counts.nodes ≤ v) × (v + counts.nodes ≤ length area.old) × NodeTables counts nodes.now operands.now × RootTable counts roots.now × Classed counts nodes.now operands.now (take v area.old) }
     ensures value { result ≡ rank_check counts nodes.now operands.now (take v area.old) roots.now ranks.now }
     ensures area_unchanged { take v area.new ≡ take v area.old }
 {
     if ranks.len() != counts.atoms {
-        return Admission::Refused(Refusal::RankShape);
+        return Err(Refusal::RankShape);
     }
     if theory::all_below(ranks, counts.atoms, 0, counts.atoms) {
         fill_highest(counts, nodes, operands, ranks, area, v);
         rank_order(counts, nodes, operands, roots, ranks, area, v)
     } else {
-        Admission::Refused(Refusal::RankShape)
+        Err(Refusal::RankShape)
     }
 }

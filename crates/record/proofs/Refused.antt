@@ -1,5 +1,6 @@
 -- A file that is not sound is refused with a number from 1 to 8.
 -- Assumes nothing.
+use Rattle.std.specs.Prelude.{Result, Ok, Err}
 use Prim.Native.Nat.{ℕ, zero, suc, ◌+◌, ◌≤◌}
 use native.Mathlib.Omega.{arith}
 use mathlib.Core.Path.{◌≡◌, refl, sym, subst}
@@ -22,24 +23,22 @@ use Rattle.record.specs.File.{sound, refused, summary, ended, read_from, start, 
 use Rattle.record.specs.declared.Cursor.{Cursor}
 use Rattle.record.specs.declared.Mark.{Mark}
 use Rattle.record.specs.declared.Mark.TheVariants.{Theory, Atom, False, Implies, And, Or, Root, Candidate, Unknown}
-use Rattle.record.specs.declared.Step.{Step}
-use Rattle.record.specs.declared.Step.TheVariants.{Next, Refused}
 use Rattle.record.proofs.Steps.{refused_next}
 
 -- ---- one record
 
 module _ (r : Refusal) where
   -- a test's own refusal, or one of what is left
-  by_test : (b : Bool) (x : Refusal) (s : Step) → number_of x ≤ 8 → (s ≡ Refused r → number_of r ≤ 8) → unless b x s ≡ Refused r → number_of r ≤ 8
+  by_test : (b : Bool) (x : Refusal) (s : Result Cursor Refusal) → number_of x ≤ 8 → (s ≡ Err r → number_of r ≤ 8) → unless b x s ≡ Err r → number_of r ≤ 8
   unfolding unless
   by_test true x s f h e = h e
   by_test false x s f h e = let q : x ≡ r = cc in rw q at f
 
-  by_group : (c : Cursor) (vs : List ℕ) (s : Step) → (s ≡ Refused r → number_of r ≤ 8) → judged_group c vs s ≡ Refused r → number_of r ≤ 8
+  by_group : (c : Cursor) (vs : List ℕ) (s : Result Cursor Refusal) → (s ≡ Err r → number_of r ≤ 8) → judged_group c vs s ≡ Err r → number_of r ≤ 8
   unfolding judged_group told
   by_group c vs s h = by_test (not (eqb (length vs) 0)) (NoOperands c.records) _ (omega arith) (by_test (all_below c.counts.nodes vs) (BadOperand c.records) s (omega arith) h)
 
-  by_values : (c : Cursor) (mark : Mark) (vs : List ℕ) (s : Step) → (s ≡ Refused r → number_of r ≤ 8) → judged_values c mark vs s ≡ Refused r → number_of r ≤ 8
+  by_values : (c : Cursor) (mark : Mark) (vs : List ℕ) (s : Result Cursor Refusal) → (s ≡ Err r → number_of r ≤ 8) → judged_values c mark vs s ≡ Err r → number_of r ≤ 8
   unfolding judged_values told
   by_values c Theory vs s h = h
   by_values c Atom vs s h = by_test (all_below c.counts.atoms vs) (BadAtom c.records) s (omega arith) h
@@ -52,7 +51,7 @@ module _ (r : Refusal) where
       by_test (all_below c.counts.atoms vs) (BadAtom c.records) _ (omega arith) (by_test (rising vs) (NotRising c.records) s (omega arith) h)
   by_values c Unknown vs s h = h
 
-  by_record : (file : List ℕ) (c : Cursor) → judged file c ≡ Refused r → number_of r ≤ 8
+  by_record : (file : List ℕ) (c : Cursor) → judged file c ≡ Err r → number_of r ≤ 8
   unfolding judged judged_marked judged_whole told
   by_record file c =
       let mark = mark_at file c.at in
@@ -78,11 +77,11 @@ module _ (r : Refusal) where
   by-rest file c t zero e = by_end c t e
   by-rest file c t (suc n) e = go (eqb c.at (length file)) (judged file c) refl (λ next. by-rest file next (joined t (of_next file c)) n) e
     where
-      go : (b : Bool) (x : Step) → judged file c ≡ x → ((next : Cursor) → read_from file next (joined t (of_next file c)) n ≡ refused r → number_of r ≤ 8)
-          → cond b (ended c t) (elim x [ Next next ↦ read_from file next (joined t (of_next file c)) n | Refused q ↦ refused q ]) ≡ refused r → number_of r ≤ 8
+      go : (b : Bool) (x : Result Cursor Refusal) → judged file c ≡ x → ((next : Cursor) → read_from file next (joined t (of_next file c)) n ≡ refused r → number_of r ≤ 8)
+          → cond b (ended c t) (elim x [ Ok next ↦ read_from file next (joined t (of_next file c)) n | Err q ↦ refused q ]) ≡ refused r → number_of r ≤ 8
       go true x j ih h = by_end c t h
-      go false (Next next) j ih h = ih next h
-      go false (Refused q) j ih h = let same : q ≡ r = cc in by_record file c (rw same at j)
+      go false (Ok next) j ih h = ih next h
+      go false (Err q) j ih h = let same : q ≡ r = cc in by_record file c (rw same at j)
 
   pub file_refusal : (file : List ℕ) → theory_file file ≡ refused r → number_of r ≤ 8
   unfolding theory_file

@@ -1,5 +1,6 @@
 -- What the definition of one record gives at each exit, and what is known of the cursor past a record.
 -- Assumes nothing.
+use Rattle.std.specs.Prelude.{Result, Ok, Err}
 use Prim.Native.Nat.{ℕ, ◌+◌, ◌-◌, ◌*◌, ◌<◌, ◌≤◌}
 use native.Mathlib.Omega.{arith}
 use mathlib.Core.Path.{◌≡◌, refl}
@@ -10,8 +11,6 @@ use lib.ListN.{length}
 use borrow.Author.Tests.{lt-leb, le-leb, leb-true, ltb-false}
 use Rattle.theory.specs.Limits.{limits_of, Limited}
 use Rattle.theory.specs.declared.Counts.{Counts}
-use Rattle.theory.specs.declared.Admission.{Admission}
-use Rattle.theory.specs.declared.Admission.TheVariants as admission
 use Rattle.theory.specs.declared.Refusal.{Refusal}
 use Rattle.theory.specs.declared.Refusal.TheVariants.{BadKind, CutRecord, PastLimit}
 use Rattle.record.specs.Mark.{mark_at, in_order}
@@ -24,43 +23,42 @@ use Rattle.record.specs.Bounds.{Within}
 use Rattle.record.specs.declared.Cursor.{Cursor}
 use Rattle.record.specs.declared.Mark.{Mark}
 use Rattle.record.specs.declared.Mark.TheVariants.{Theory, Atom, False, Implies, And, Or, Root, Candidate, Unknown}
-use Rattle.record.specs.declared.Step.{Step}
-use Rattle.record.specs.declared.Step.TheVariants.{Next, Refused}
+use Rattle.theory.specs.Admission.{Admission, admitted}
 
 -- ---- exits
 
 module _ (file : List ℕ) (c : Cursor) where
-  pub mark_cut : length file - c.at < 2 → c.at ≤ length file → Refused (CutRecord c.records) ≡ judged file c
+  pub mark_cut : length file - c.at < 2 → c.at ≤ length file → Err (CutRecord c.records) ≡ judged file c
   unfolding judged unless
   mark_cut h l = rw (lt-leb (c.at + 2) (length file) (omega arith))
 
-  pub marked : (mark : Mark) (r : Step) → c.at + 2 ≤ length file → mark ≡ mark_at file c.at → r ≡ judged_marked file c mark → r ≡ judged file c
+  pub marked : (mark : Mark) (r : Result Cursor Refusal) → c.at + 2 ≤ length file → mark ≡ mark_at file c.at → r ≡ judged_marked file c mark → r ≡ judged file c
   unfolding judged unless
   marked mark r h e q = rw (le-leb (c.at + 2) (length file) h, ← e) q
 
   module _ (mark : Mark) where
-    pub disordered : in_order mark c.stage ≡ false → Refused (BadKind c.records) ≡ judged_marked file c mark
+    pub disordered : in_order mark c.stage ≡ false → Err (BadKind c.records) ≡ judged_marked file c mark
     unfolding judged_marked unless
     disordered e = rw e
 
-    pub record_cut : in_order mark c.stage ≡ true → leb (record_end file c.at mark) (length file) ≡ false → Refused (CutRecord c.records) ≡ judged_marked file c mark
+    pub record_cut : in_order mark c.stage ≡ true → leb (record_end file c.at mark) (length file) ≡ false → Err (CutRecord c.records) ≡ judged_marked file c mark
     unfolding judged_marked unless
     record_cut e q = rw (e, q)
 
-    pub record_whole : (r : Step) → in_order mark c.stage ≡ true → leb (record_end file c.at mark) (length file) ≡ true
+    pub record_whole : (r : Result Cursor Refusal) → in_order mark c.stage ≡ true → leb (record_end file c.at mark) (length file) ≡ true
         → r ≡ judged_whole c mark (values_of file c.at mark) (record_end file c.at mark) → r ≡ judged_marked file c mark
     unfolding judged_marked unless
     record_whole r e q p = rw (e, q) p
 
     module _ (start count : ℕ) (counts : Counts) (limits : Admission) (at-start : start ≡ values_start file c.at mark) (so_many : count ≡ value_count file c.at mark)
         (counted-so : counts ≡ counts_after c.counts mark (numbers file start count)) (tried : limits ≡ limits_of counts) where
-      pub past_limit : (x : Refusal) → limits ≡ admission.Refused x
-          → Refused (PastLimit c.records) ≡ judged_whole c mark (values_of file c.at mark) (record_end file c.at mark)
+      pub past_limit : (x : Refusal) → limits ≡ Err x
+          → Err (PastLimit c.records) ≡ judged_whole c mark (values_of file c.at mark) (record_end file c.at mark)
       unfolding judged_whole unless values_of
       past_limit x e = rw (← at-start, ← so_many, ← counted-so, ← tried, e)
 
-      pub within_limits : (next : Cursor) (r : Step) → limits ≡ admission.Admitted → next ≡ passed c mark counts (start + 4 * count)
-          → r ≡ judged_values c mark (numbers file start count) (Next next)
+      pub within_limits : (next : Cursor) (r : Result Cursor Refusal) → limits ≡ admitted → next ≡ passed c mark counts (start + 4 * count)
+          → r ≡ judged_values c mark (numbers file start count) (Ok next)
           → r ≡ judged_whole c mark (values_of file c.at mark) (record_end file c.at mark)
       unfolding judged_whole unless values_of record_end
       within_limits next r e n q = rw (← at-start, ← so_many, ← counted-so, ← tried, e, ← n) q
@@ -89,19 +87,19 @@ end_past file at mark = go (counted mark)
 
 -- ---- on to the next record
 
-pub refused_next : (r : Refusal) (n : Cursor) → Refused r ≡ Next n → ⊥
+pub refused_next : (r : Refusal) (n : Cursor) → Err r ≡ Ok n → ⊥
 refused_next r n e = let z : ◌≡◌ {A = ℕ} 0 1 = cc in omega arith
 
-pub unless_next : (b : Bool) (r : Refusal) (s : Step) (n : Cursor) → unless b r s ≡ Next n → (b ≡ true) × (s ≡ Next n)
+pub unless_next : (b : Bool) (r : Refusal) (s : Result Cursor Refusal) (n : Cursor) → unless b r s ≡ Ok n → (b ≡ true) × (s ≡ Ok n)
 unfolding unless
 unless_next true r s n e = (refl, e)
 unless_next false r s n e = absurd (refused_next r n e)
 
-pub group_next : (c : Cursor) (vs : List ℕ) (s : Step) (n : Cursor) → judged_group c vs s ≡ Next n → s ≡ Next n
+pub group_next : (c : Cursor) (vs : List ℕ) (s : Result Cursor Refusal) (n : Cursor) → judged_group c vs s ≡ Ok n → s ≡ Ok n
 unfolding judged_group
 group_next c vs s n e = (unless_next _ _ _ n (unless_next _ _ _ n e).1).1
 
-values_next : (c : Cursor) (mark : Mark) (vs : List ℕ) (s : Step) (n : Cursor) → judged_values c mark vs s ≡ Next n → s ≡ Next n
+values_next : (c : Cursor) (mark : Mark) (vs : List ℕ) (s : Result Cursor Refusal) (n : Cursor) → judged_values c mark vs s ≡ Ok n → s ≡ Ok n
 unfolding judged_values
 values_next c Theory vs s n e = e
 values_next c Atom vs s n e = (unless_next _ _ _ n e).1
@@ -118,7 +116,7 @@ pub record Passed (file : List ℕ) (c next : Cursor) (mark : Mark) (vs : List �
   pub ordered : in_order mark c.stage ≡ true
   pub whole : record_end file c.at mark ≤ length file
   pub limited : Limited (counts_after c.counts mark vs)
-  pub values : judged_values c mark vs (Next next) ≡ Next next
+  pub values : judged_values c mark vs (Ok next) ≡ Ok next
   pub next_is : next ≡ passed c mark (counts_after c.counts mark vs) (record_end file c.at mark)
 
 admitted_limited : (t : Counts) → is_admitted (limits_of t) ≡ true → Limited t
@@ -127,7 +125,7 @@ admitted_limited t e =
     go (ltb 65536 t.atoms) refl (ltb 262144 t.nodes) refl (ltb 1048576 t.operands) refl (ltb 262144 t.roots) refl e
   where
     go : (a : Bool) → ltb 65536 t.atoms ≡ a → (n : Bool) → ltb 262144 t.nodes ≡ n → (o : Bool) → ltb 1048576 t.operands ≡ o → (r : Bool) → ltb 262144 t.roots ≡ r
-        → is_admitted (cond a (admission.Refused (PastLimit 0)) (cond n (admission.Refused (PastLimit 1)) (cond o (admission.Refused (PastLimit 2)) (cond r (admission.Refused (PastLimit 3)) admission.Admitted)))) ≡ true
+        → is_admitted (cond a (Err (PastLimit 0)) (cond n (Err (PastLimit 1)) (cond o (Err (PastLimit 2)) (cond r (Err (PastLimit 3)) admitted)))) ≡ true
         → Limited t
     go true ea n en o eo r er q = absurd (false≢true q)
     go false ea true en o eo r er q = absurd (false≢true q)
@@ -136,7 +134,7 @@ admitted_limited t e =
     go false ea false en false eo false er q =
         record { atoms = ltb-false 65536 t.atoms ea; nodes = ltb-false 262144 t.nodes en; operands = ltb-false 1048576 t.operands eo; roots = ltb-false 262144 t.roots er }
 
-pub next_passed : (file : List ℕ) (c next : Cursor) → judged file c ≡ Next next → Passed file c next (mark_at file c.at) (values_of file c.at (mark_at file c.at))
+pub next_passed : (file : List ℕ) (c next : Cursor) → judged file c ≡ Ok next → Passed file c next (mark_at file c.at) (values_of file c.at (mark_at file c.at))
 unfolding judged judged_marked judged_whole
 next_passed file c next e =
     let a = unless_next _ _ _ next e in
@@ -177,7 +175,7 @@ begun c Candidate t end o e = omega arith
 begun c Unknown t end o e = false≢true o
 
 -- the cursor moves on and keeps its bounds
-pub next_within : (file : List ℕ) (c next : Cursor) → judged file c ≡ Next next → Within (length file) c
+pub next_within : (file : List ℕ) (c next : Cursor) → judged file c ≡ Ok next → Within (length file) c
     → Within (length file) next × (c.at + 2 ≤ next.at) × (next.records ≡ c.records + 1)
 next_within file c next e w =
     let p = next_passed file c next e in

@@ -1,15 +1,12 @@
 -- A theory file: what it holds, or the refusal it gives.
 -- Assumes nothing.
-use Rattle.std.specs.Prelude.{ℕ, zero, suc, cond, List, eqb, length}
+use Rattle.std.specs.Prelude.{ℕ, zero, suc, cond, List, eqb, length, Result, Ok, Err}
 use Rattle.theory.specs.declared.Refusal.{Refusal}
 use Rattle.theory.specs.declared.Refusal.TheVariants.{BadKind}
 use Rattle.record.specs.Record.{judged}
 use Rattle.record.specs.Contents.{Contents, nothing, joined, of_next}
 use Rattle.record.specs.declared.Cursor.{Cursor}
-use Rattle.record.specs.declared.Step.TheVariants as step
 use Rattle.record.specs.declared.Summary.{Summary}
-use Rattle.record.specs.declared.Judged.{Judged}
-use Rattle.record.specs.declared.Judged.TheVariants as judgment
 
 pub data File : Type 0 where
   sound : Summary → Contents → File
@@ -27,7 +24,7 @@ unfoldable pub read_from : List ℕ → Cursor → Contents → ℕ → File
 read_from file c t zero = ended c t
 read_from file c t (suc n) =
     cond (eqb c.at (length file)) (ended c t)
-    (elim (judged file c) [ step.Next next ↦ read_from file next (joined t (of_next file c)) n | step.Refused r ↦ refused r ])
+    (elim (judged file c) [ Ok next ↦ read_from file next (joined t (of_next file c)) n | Err r ↦ refused r ])
 
 abbrev pub start : Cursor
 start =
@@ -45,6 +42,6 @@ unfoldable pub theory_file : List ℕ → File
 theory_file file = read_from file start nothing (length file)
 
 -- what `judge` answers
-unfoldable pub verdict : File → Judged
-verdict (sound s t) = judgment.Sound s
-verdict (refused r) = judgment.Refused r
+unfoldable pub verdict : File → Result Summary Refusal
+verdict (sound s t) = Ok s
+verdict (refused r) = Err r

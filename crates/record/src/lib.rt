@@ -345,23 +345,23 @@ pub fn passed(c: Cursor, mark: Mark, counts: Counts, end: usize) -> Cursor
 }
 
 // On to the next record, unless the test fails.
-fn unless(test: bool, refusal: Refusal, next: Cursor) -> Step
-    ensures { result ≡ unless test refusal (Step.Next next) }
+fn unless(test: bool, refusal: Refusal, next: Cursor) -> Result<Cursor, Refusal>
+    ensures { result ≡ unless test refusal (Ok next) }
 {
     if test {
-        Step::Next(next)
+        Ok(next)
     } else {
-        Step::Refused(refusal)
+        Err(refusal)
     }
 }
 
 // And or Or: 6, 5.
-fn judge_group(file: &[u8], c: Cursor, v: Values, next: Cursor) -> Step
+fn judge_group(file: &[u8], c: Cursor, v: Values, next: Cursor) -> Result<Cursor, Refusal>
     requires { v.start + 4 * v.count ≤ length file.now }
-    ensures { result ≡ judged_group c (numbers file.now v.start v.count) (Step.Next next) }
+    ensures { result ≡ judged_group c (numbers file.now v.start v.count) (Ok next) }
 {
     if v.count == 0 {
-        return Step::Refused(Refusal::NoOperands(c.records));
+        return Err(Refusal::NoOperands(c.records));
     }
     let nodes = c.counts.nodes;
     let records = c.records;
@@ -373,31 +373,31 @@ fn judge_group(file: &[u8], c: Cursor, v: Values, next: Cursor) -> Step
 }
 
 // A candidate: 4, 8.
-fn judge_candidate(file: &[u8], c: Cursor, v: Values, next: Cursor) -> Step
+fn judge_candidate(file: &[u8], c: Cursor, v: Values, next: Cursor) -> Result<Cursor, Refusal>
     requires { v.start + 4 * v.count ≤ length file.now }
-    ensures { result ≡ judged_values c Mark.Candidate (numbers file.now v.start v.count) (Step.Next next) }
+    ensures { result ≡ judged_values c Mark.Candidate (numbers file.now v.start v.count) (Ok next) }
 {
     let atoms = c.counts.atoms;
     let records = c.records;
     if all_below(file, v, atoms) {
         unless(is_rising(file, v), Refusal::NotRising(records), next)
     } else {
-        Step::Refused(Refusal::BadAtom(records))
+        Err(Refusal::BadAtom(records))
     }
 }
 
 // 6, 4, 5, 7, 8 by the values of the record.
-fn judge_values(file: &[u8], c: Cursor, mark: Mark, v: Values, next: Cursor) -> Step
+fn judge_values(file: &[u8], c: Cursor, mark: Mark, v: Values, next: Cursor) -> Result<Cursor, Refusal>
     requires { v.start + 4 * v.count ≤ length file.now }
-    ensures { result ≡ judged_values c mark (numbers file.now v.start v.count) (Step.Next next) }
+    ensures { result ≡ judged_values c mark (numbers file.now v.start v.count) (Ok next) }
 {
     let atoms = c.counts.atoms;
     let nodes = c.counts.nodes;
     let records = c.records;
     match mark {
-        Mark::Theory => Step::Next(next),
+        Mark::Theory => Ok(next),
         Mark::Atom => unless(all_below(file, v, atoms), Refusal::BadAtom(records), next),
-        Mark::False => Step::Next(next),
+        Mark::False => Ok(next),
         Mark::Implies => unless(
             all_below(file, v, nodes),
             Refusal::BadOperand(records),
@@ -407,12 +407,12 @@ fn judge_values(file: &[u8], c: Cursor, mark: Mark, v: Values, next: Cursor) -> 
         Mark::Or => judge_group(file, c, v, next),
         Mark::Root => unless(all_below(file, v, nodes), Refusal::BadRoot(records), next),
         Mark::Candidate => judge_candidate(file, c, v, next),
-        Mark::Unknown => Step::Next(next),
+        Mark::Unknown => Ok(next),
     }
 }
 
 // A record that is whole: 3, then by its values.
-fn judge_whole(file: &[u8], c: Cursor, mark: Mark) -> Step
+fn judge_whole(file: &[u8], c: Cursor, mark: Mark) -> Result<Cursor, Refusal>
     requires { Within (length file.now) c × (record_end file.now c.at mark ≤ length file.now) }
     ensures { result ≡ judged_whole c mark (values_of file.now c.at mark) (record_end file.now c.at mark) }
 {
@@ -420,32 +420,32 @@ fn judge_whole(file: &[u8], c: Cursor, mark: Mark) -> Step
     let old = c.counts;
     let counts = counts_after(file, old, mark, v);
     match theory::limits(counts) {
-        Admission::Admitted => {
+        Ok(()) => {
             let next = passed(c, mark, counts, v.start + 4 * v.count);
             judge_values(file, c, mark, v, next)
         }
-        Admission::Refused(_) => Step::Refused(Refusal::PastLimit(c.records)),
+        Err(_) => Err(Refusal::PastLimit(c.records)),
     }
 }
 
 // The record that begins at the cursor.
-fn judge_record(file: &[u8], c: Cursor) -> Step
+fn judge_record(file: &[u8], c: Cursor) -> Result<Cursor, Refusal>
     requires { Within (length file.now) c }
     ensures { result ≡ judged file.now c }
 {
     let at = c.at;
     if file.len() - at < 2 {
-        return Step::Refused(Refusal::CutRecord(c.records));
+        return Err(Refusal::CutRecord(c.records));
     }
     let mark = mark_at(file, at);
     if in_order(mark, c.stage) {
         if is_whole(file, at, mark) {
             judge_whole(file, c, mark)
         } else {
-            Step::Refused(Refusal::CutRecord(c.records))
+            Err(Refusal::CutRecord(c.records))
         }
     } else {
-        Step::Refused(Refusal::BadKind(c.records))
+        Err(Refusal::BadKind(c.records))
     }
 }
 
@@ -470,21 +470,21 @@ pub fn start() -> Cursor
 }
 
 // Whether the file is sound, and what it holds; or why not, and at which record.
-pub fn judge(file: &[u8]) -> Judged
+pub fn judge(file: &[u8]) -> Result<Summary, Refusal>
     ensures { result ≡ verdict (theory_file file.now) }
 {
     let mut c = start();
     while c.at < file.len() {
         match judge_record(file, c) {
-            Step::Next(next) => c = next,
-            Step::Refused(r) => return Judged::Refused(r),
+            Ok(next) => c = next,
+            Err(r) => return Err(r),
         }
     }
     if c.stage == 0 {
-        return Judged::Refused(Refusal::BadKind(c.records));
+        return Err(Refusal::BadKind(c.records));
     }
     let counts = c.counts;
-    Judged::Sound(Summary {
+    Ok(Summary {
         counts: counts,
         candidates: c.candidates,
         first: c.first,

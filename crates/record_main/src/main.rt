@@ -69,8 +69,8 @@ fn show_sound(rt: &impl Print, s: Summary) -> io::Result<()> {
 
 fn show(rt: &impl Print, file: &[u8]) -> io::Result<()> {
     match record::judge(file) {
-        Judged::Sound(s) => show_sound(rt, s),
-        Judged::Refused(r) => show_refused(rt, r),
+        Ok(s) => show_sound(rt, s),
+        Err(r) => show_refused(rt, r),
     }
 }
 
@@ -92,7 +92,7 @@ fn show_word(rt: &impl Print, word: u64) -> io::Result<()> {
 
 // The first word of each candidate, found one after the other.
 fn show_candidates(rt: &impl Print, file: &[u8], s: Summary) -> io::Result<()>
-    requires { (verdict (theory_file file.now) ≡ Judged.Sound s) × (s.counts.atoms ≤ 512) }
+    requires { (verdict (theory_file file.now) ≡ Ok s) × (s.counts.atoms ≤ 512) }
 {
     let mut words = [0u64; 8];
     let mut at = s.first;
@@ -108,12 +108,12 @@ fn show_candidates(rt: &impl Print, file: &[u8], s: Summary) -> io::Result<()>
 
 fn show_all_candidates(rt: &impl Print, file: &[u8]) -> io::Result<()> {
     match record::judge(file) {
-        Judged::Sound(s) => {
+        Ok(s) => {
             if s.counts.atoms <= 512 {
                 show_candidates(rt, file, s)?;
             }
         }
-        Judged::Refused(r) => show_refused(rt, r)?,
+        Err(r) => show_refused(rt, r)?,
     }
     Ok(())
 }
@@ -127,8 +127,8 @@ fn show_loaded(
     roots: &mut [u32],
 ) -> io::Result<()> {
     match load::load(file, nodes, operands, roots) {
-        Loaded::Sound(s) => show_sound(rt, s)?,
-        Loaded::Refused(r) => show_refused(rt, r)?,
+        Ok(s) => show_sound(rt, s)?,
+        Err(r) => show_refused(rt, r)?,
     }
     show_words(rt, b"nodes", nodes)?;
     show_words(rt, b"operands", operands)?;

@@ -1,7 +1,6 @@
 -- A set with its count inside lent words: its words begin at a place, its count is one word.
 -- Assumes nothing.
-use Rattle.std.specs.Prelude.{ℕ, ◌+◌, ◌/◌, ◌%◌, ◌^◌, ◌≡◌, Bool, true, false, cond, List, get_or, set}
-use Rattle.std.proofs.Math.Option.{Option, some, none}
+use Rattle.std.specs.Prelude.{ℕ, ◌+◌, ◌/◌, ◌%◌, ◌^◌, ◌≡◌, Bool, true, false, cond, List, get_or, set, Option, Some, None}
 use Rattle.std.specs.Int.Bits.{bit_or, bit_xor}
 use Rattle.words.specs.Bit.{bit}
 use Rattle.words.specs.Changed.{unlike}
@@ -19,9 +18,9 @@ bit_put at i x ws = set ws (at + i / 32) (digit_put (get_or ws (at + i / 32) 0) 
 -- with its count, which is `most` at most; none: it would leave its range
 unfoldable pub member_put : ℕ → ℕ → ℕ → ℕ → Bool → List ℕ → Option (List ℕ)
 member_put at size most i x ws =
-    cond (unlike (bit (get_or ws (at + i / 32) 0) (i % 32)) x) (and_then (moved most x (get_or ws size 0)) (λ n. some (set (bit_put at i x ws) size n))) (some ws)
+    cond (unlike (bit (get_or ws (at + i / 32) 0) (i % 32)) x) (and_then (moved most x (get_or ws size 0)) (λ n. Some (set (bit_put at i x ws) size n))) (Some ws)
 
 -- a call left these words, and told so; or it left them as they were
 abbrev pub Put : List ℕ → Option (List ℕ) → Bool → List ℕ → Type 0
-Put ws none ok after = (ok ≡ false) × (after ≡ ws)
-Put ws (some w) ok after = (ok ≡ true) × (after ≡ w)
+Put ws None ok after = (ok ≡ false) × (after ≡ ws)
+Put ws (Some w) ok after = (ok ≡ true) × (after ≡ w)

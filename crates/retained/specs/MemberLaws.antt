@@ -2,10 +2,9 @@
 -- Assumes nothing.
 use Prim.Native.Nat.{ℕ, ◌<◌, ◌≤◌, ◌+◌, ◌-◌, ◌*◌, ◌/◌, ◌%◌, ◌^◌}
 use Rattle.std.proofs.Common.{arith, sym, ◌∙◌}
-use Rattle.std.specs.Prelude.{◌≡◌, Bool, not, cond, List, length, get_or}
+use Rattle.std.specs.Prelude.{◌≡◌, Bool, not, cond, List, length, get_or, Option, Some, None}
 use Rattle.std.proofs.Math.Path.{refl, ap}
 use Rattle.std.proofs.Math.Bool.{true, false}
-use Rattle.std.proofs.Math.Option.{Option, some, none}
 use Rattle.std.specs.Int.Bits.{bit_or, bit_xor}
 use borrow.Author.Tests.{eq-eqb, ne_eqb}
 use Rattle.std.proofs.Math.ListN.{set, length-set}
@@ -41,11 +40,11 @@ module _ (at size most i : ℕ) (x : Bool) (ws : List ℕ) where
   put_stays e = rw (unlike_same digit x e) (refl, refl)
 
   -- its count would leave its range
-  pub put_astray : unlike digit x ≡ true → moved most x (get_or ws size 0) ≡ none → Put ws (member_put at size most i x ws) false ws
+  pub put_astray : unlike digit x ≡ true → moved most x (get_or ws size 0) ≡ None → Put ws (member_put at size most i x ws) false ws
   unfolding member_put
   put_astray e m = rw (e, m) (refl, refl)
 
-  pub put_done : (n : ℕ) → unlike digit x ≡ true → moved most x (get_or ws size 0) ≡ some n → Put ws (member_put at size most i x ws) true (set (bit_put at i x ws) size n)
+  pub put_done : (n : ℕ) → unlike digit x ≡ true → moved most x (get_or ws size 0) ≡ Some n → Put ws (member_put at size most i x ws) true (set (bit_put at i x ws) size n)
   unfolding member_put
   put_done n e m = rw (e, m) (refl, refl)
 
@@ -105,9 +104,9 @@ module _ (T : Tables) (ws : List ℕ) (at size n : ℕ) (s : CountedSet) (build 
   digits false = refl
 
   turned : Option CountedSet → Option Evaluation
-  turned o = and_then o (λ w. some (build w))
+  turned o = and_then o (λ w. Some (build w))
 
-  pub put_wrote : (ok : Bool) (after : List ℕ) → Put ws (member_put at size n i x ws) ok after → Wrote T ws (and_then (with_member n s i x) (λ w. some (build w))) ok after
+  pub put_wrote : (ok : Bool) (after : List ℕ) → Put ws (member_put at size n i x ws) ok after → Wrote T ws (and_then (with_member n s i x) (λ w. Some (build w))) ok after
   unfolding member_put with_member member bit_put
   put_wrote ok after h = go (unlike (bit (get_or s.members (i / 32) 0) (i % 32)) x) (moved n x s.size) (rw (word, number) at h)
     where
@@ -115,10 +114,10 @@ module _ (T : Tables) (ws : List ℕ) (at size n : ℕ) (s : CountedSet) (build 
       put m = record { members = with_bit s.members i x; size = m }
 
       go : (b : Bool) (o : Option ℕ)
-          → Put ws (cond b (and_then o (λ m. some (set (set ws (at + i / 32) (digit_put (get_or s.members (i / 32) 0) (i % 32) x)) size m))) (some ws)) ok after
-          → Wrote T ws (and_then (cond b (and_then o (λ m. some (put m))) (some s)) (λ w. some (build w))) ok after
-      go true none h = (h.0, rw h.1 (beside_same T ws))
-      go true (some m) h =
+          → Put ws (cond b (and_then o (λ m. Some (set (set ws (at + i / 32) (digit_put (get_or s.members (i / 32) 0) (i % 32) x)) size m))) (Some ws)) ok after
+          → Wrote T ws (and_then (cond b (and_then o (λ m. Some (put m))) (Some s)) (λ w. Some (build w))) ok after
+      go true None h = (h.0, rw h.1 (beside_same T ws))
+      go true (Some m) h =
           (h.0, h.1 ∙ store (digit_put (get_or s.members (i / 32) 0) (i % 32) x) m ∙ ap (λ l. written T ws (build (record { members = l; size = m }))) (digits x))
       go false o h = (h.0, h.1 ∙ sym same)
 

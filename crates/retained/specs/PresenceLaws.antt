@@ -1,9 +1,8 @@
 -- Whether an atom is missing: by its support, if it is to be in the candidate.
 -- Assumes nothing.
-use Rattle.std.specs.Prelude.{ℕ, ◌<◌, ◌≤◌, ◌+◌, Bool, true, false, ◌&&◌, List, eqb, length, get_or}
+use Rattle.std.specs.Prelude.{ℕ, ◌<◌, ◌≤◌, ◌+◌, Bool, true, false, ◌&&◌, List, eqb, length, get_or, Option, Some, None}
 use Rattle.std.proofs.Common.{arith, ap, ◌∙◌}
 use Rattle.std.proofs.Math.Path.{◌≡◌, refl, sym}
-use Rattle.std.proofs.Math.Option.{Option, some, none}
 use Rattle.kept.specs.CountedSet.{and_then, CountedSet, with_member}
 use Rattle.kept.specs.Tables.{Tables, atom_count}
 use Rattle.kept.specs.Evaluation.{Evaluation}
@@ -17,7 +16,7 @@ use Rattle.kept_laws.specs.Wrote.{Wrote}
 use Rattle.retained.specs.Changes.{missing_turned, presence_turned}
 
 module _ (T : Tables) where
-  pub missing_fits : (e : Evaluation) (a : ℕ) (x : Bool) (m : CountedSet) → with_member (atom_count T) e.missing a x ≡ some m → Fits T e → Fits T (with_support e e.support m)
+  pub missing_fits : (e : Evaluation) (a : ℕ) (x : Bool) (m : CountedSet) → with_member (atom_count T) e.missing a x ≡ Some m → Fits T e → Fits T (with_support e e.support m)
   missing_fits e a x m h f =
       record {
         truths = f.truths;
@@ -30,19 +29,19 @@ module _ (T : Tables) where
       }
 
   -- what turning the missing atom gives
-  pub missing_turned_lem : (e d : Evaluation) (a : ℕ) (x : Bool) → missing_turned T a x e ≡ some d → (m : CountedSet) × (with_member (atom_count T) e.missing a x ≡ some m) × (d ≡ with_support e e.support m)
+  pub missing_turned_lem : (e d : Evaluation) (a : ℕ) (x : Bool) → missing_turned T a x e ≡ Some d → (m : CountedSet) × (with_member (atom_count T) e.missing a x ≡ Some m) × (d ≡ with_support e e.support m)
   unfolding missing_turned
   missing_turned_lem e d a x h =
-      let p = then_some (with_member (atom_count T) e.missing a x) (λ m. some (with_support e e.support m)) d h in
+      let p = then_some (with_member (atom_count T) e.missing a x) (λ m. Some (with_support e e.support m)) d h in
       (p.0, p.1, sym (some_is (with_support e e.support p.0) d p.2))
 
-  pub missing_not : (e : Evaluation) (a : ℕ) (x : Bool) → missing_turned T a x e ≡ none → with_member (atom_count T) e.missing a x ≡ none
+  pub missing_not : (e : Evaluation) (a : ℕ) (x : Bool) → missing_turned T a x e ≡ None → with_member (atom_count T) e.missing a x ≡ None
   unfolding missing_turned
   missing_not e a x h = go (with_member (atom_count T) e.missing a x) h
     where
-      go : (o : Option CountedSet) → and_then o (λ m. some (with_support e e.support m)) ≡ none → o ≡ none
-      go none h = refl
-      go (some m) h = let z : ◌≡◌ {A = ℕ} 0 1 = cc in absurd (omega arith)
+      go : (o : Option CountedSet) → and_then o (λ m. Some (with_support e e.support m)) ≡ None → o ≡ None
+      go None h = refl
+      go (Some m) h = let z : ◌≡◌ {A = ℕ} 0 1 = cc in absurd (omega arith)
 
   module _ (ws : List ℕ) (long : used T ≤ length ws) (a : ℕ) (l : a < atom_count T) (x : Bool) where
     abbrev e : Evaluation

@@ -1,10 +1,9 @@
 -- The worklist inside the lent words: a node enters it, or its first leaves.
 -- Assumes nothing.
-use Rattle.std.specs.Prelude.{ℕ, ◌<◌, ◌≤◌, ◌+◌, ◌-◌, ◌*◌, ◌/◌, ◌%◌, ◌^◌, Bool, not, ◌&&◌, List, ltb, take, drop}
+use Rattle.std.specs.Prelude.{ℕ, ◌<◌, ◌≤◌, ◌+◌, ◌-◌, ◌*◌, ◌/◌, ◌%◌, ◌^◌, Bool, not, ◌&&◌, List, ltb, take, drop, Option, Some, None}
 use Rattle.std.proofs.Common.{arith, ◌∙◌, length-set, length-drop, length-take-le}
 use Rattle.std.proofs.Math.Path.{◌≡◌, refl, ap, sym}
 use Rattle.std.proofs.Math.Bool.{true, false, cond}
-use Rattle.std.proofs.Math.Option.{Option, some, none}
 use Rattle.std.specs.Int.Bits.{bit_and}
 use Rattle.std.specs.Int.Count.{count_trailing_zeros}
 use Rattle.std.proofs.Math.Dec.{eqb}
@@ -84,7 +83,7 @@ module _ (T : Tables) (ws : List ℕ) (long : used T ≤ length ws) where
   others_fit o h = worklist_fits T e (with_others w o) (record { members = h; groups = refl }) fits
 
   others_wrote : (m : ℕ) → m < node_count T → (ok : Bool) (after : List ℕ) → Put ws (member_put (worklist_start T) 4 (node_count T) m true ws) ok after
-      → Wrote T ws (and_then (with_member (node_count T) w.others m true) (λ o. some (put o))) ok after
+      → Wrote T ws (and_then (with_member (node_count T) w.others m true) (λ o. Some (put o))) ok after
   others_wrote m l =
       put_wrote T ws (worklist_start T) 4 (node_count T) w.others put (written_same T ws long) m true (get_worklist T ws long (m / 32) (omega arith)) (get_worklist_size T ws)
       (λ v n.
@@ -103,34 +102,34 @@ module _ (T : Tables) (ws : List ℕ) (long : used T ≤ length ws) where
     pub wait_done : ok ≡ true → Wrote T ws (waiting T m e) true (bit_put (groups_start T) (m / 32) true mid)
     unfolding waiting behind with_bit grouped
     wait_done p =
-        let r = wrote_true T ws (and_then others (λ o. some (put o))) mid ok (others_wrote m l ok mid h) p in
-        let t = then_some others (λ o. some (put o)) r.0 r.1 in
+        let r = wrote_true T ws (and_then others (λ o. Some (put o))) mid ok (others_wrote m l ok mid h) p in
+        let t = then_some others (λ o. Some (put o)) r.0 r.1 in
         let q : mid ≡ written T ws (put t.0) = r.2 ∙ ap (written T ws) (sym (some_is (put t.0) r.0 t.2)) in
         wrote_some T ws (waiting T m e) (bit_put (groups_start T) (m / 32) true mid) (with_worklist e (grouped t.0))
-        (ap (λ o. and_then (and_then o (λ o. some (grouped o))) (λ v. some (with_worklist e v))) t.1)
+        (ap (λ o. and_then (and_then o (λ o. Some (grouped o))) (λ v. Some (with_worklist e v))) t.1)
         (ap (bit_put (groups_start T) (m / 32) true) q ∙ group_stored (m / 32) (omega arith) true (put t.0) (others_fit t.0 (length_members (node_count T) w.others m true t.0 t.1)))
 
     pub wait_none : ok ≡ false → Wrote T ws (waiting T m e) false mid
     unfolding waiting behind
     wait_none p =
-        let r = wrote_false T ws (and_then others (λ o. some (put o))) mid ok (others_wrote m l ok mid h) p in
+        let r = wrote_false T ws (and_then others (λ o. Some (put o))) mid ok (others_wrote m l ok mid h) p in
         wrote_none T ws (waiting T m e) mid (rw (not_then others r.0)) r.1
       where
-        not_then : (o : Option CountedSet) → and_then o (λ o. some (put o)) ≡ none → o ≡ none
-        not_then none h = refl
-        not_then (some o) h = let z : ◌≡◌ {A = ℕ} 0 1 = cc in absurd (omega arith)
+        not_then : (o : Option CountedSet) → and_then o (λ o. Some (put o)) ≡ None → o ≡ None
+        not_then None h = refl
+        not_then (Some o) h = let z : ◌≡◌ {A = ℕ} 0 1 = cc in absurd (omega arith)
 
   -- ---- one of the two behind the other
 
   module _ (m o : ℕ) (ok : Bool) (mid : List ℕ) (h : Wrote T ws (waiting T o e) ok mid) where
-    put_none : ok ≡ false → put_behind T o e ≡ none
+    put_none : ok ≡ false → put_behind T o e ≡ None
     unfolding waiting put_behind
     put_none p = not_then (behind (node_count T) w o) (wrote_false T ws (waiting T o e) mid ok h p).0
       where
-        not_then : (v : Option Worklist) → and_then v (λ v. some (with_worklist e v)) ≡ none
-            → and_then (and_then v (λ v. some (remembering o v))) (λ v. some (with_worklist e v)) ≡ none
-        not_then none q = refl
-        not_then (some v) q = let z : ◌≡◌ {A = ℕ} 0 1 = cc in absurd (omega arith)
+        not_then : (v : Option Worklist) → and_then v (λ v. Some (with_worklist e v)) ≡ None
+            → and_then (and_then v (λ v. Some (remembering o v))) (λ v. Some (with_worklist e v)) ≡ None
+        not_then None q = refl
+        not_then (Some v) q = let z : ◌≡◌ {A = ℕ} 0 1 = cc in absurd (omega arith)
 
     pub put_behind_none : ok ≡ false → Wrote T ws (other_behind T m o e) false mid
     unfolding other_behind
@@ -138,7 +137,7 @@ module _ (T : Tables) (ws : List ℕ) (long : used T ≤ length ws) where
         let r = wrote_false T ws (waiting T o e) mid ok h p in
         wrote_none T ws (other_behind T m o e) mid (go (eqb o m) refl) r.1
       where
-        go : (b : Bool) → eqb o m ≡ b → cond b (waiting T m e) (put_behind T o e) ≡ none
+        go : (b : Bool) → eqb o m ≡ b → cond b (waiting T m e) (put_behind T o e) ≡ None
         go true i = ap (λ x. waiting T x e) (sym (eqb-true o m i)) ∙ (wrote_false T ws (waiting T o e) mid ok h p).0
         go false i = put_none p
 
@@ -147,11 +146,11 @@ module _ (T : Tables) (ws : List ℕ) (long : used T ≤ length ws) where
     put_behind_same p i = rw (eq-eqb o m i) (rw (p, i) at h)
 
     module _ (p : ok ≡ true) (ne : o ≡ m → ⊥) where
-      waited : (v : Worklist) × (behind (node_count T) w o ≡ some v) × (mid ≡ written T ws (with_worklist e v))
+      waited : (v : Worklist) × (behind (node_count T) w o ≡ Some v) × (mid ≡ written T ws (with_worklist e v))
       unfolding waiting
       waited =
           let r = wrote_true T ws (waiting T o e) mid ok h p in
-          let t = then_some (behind (node_count T) w o) (λ v. some (with_worklist e v)) r.0 r.1 in
+          let t = then_some (behind (node_count T) w o) (λ v. Some (with_worklist e v)) r.0 r.1 in
           (t.0, t.1, r.2 ∙ ap (written T ws) (sym (some_is (with_worklist e t.0) r.0 t.2)))
 
       abbrev v : Worklist
@@ -163,7 +162,7 @@ module _ (T : Tables) (ws : List ℕ) (long : used T ≤ length ws) where
       holds : of_words T mid ≡ with_worklist e v
       holds = mid_holds T ws mid (with_worklist e v) long v_fits waited.2
 
-      remembered : (r : Worklist) → remembering o v ≡ r → other_behind T m o e ≡ some (with_worklist e r)
+      remembered : (r : Worklist) → remembering o v ≡ r → other_behind T m o e ≡ Some (with_worklist e r)
       unfolding other_behind put_behind
       remembered r i = rw (ne_eqb o m ne, waited.1, i)
 
@@ -191,9 +190,9 @@ module _ (T : Tables) (ws : List ℕ) (long : used T ≤ length ws) where
 
   pub queue_same : (m : ℕ) → m ≡ get_or ws 5 0 → Wrote T ws (entered T m e) true ws
   unfolding entered with_node
-  queue_same m p = wrote_some T ws (entered T m e) ws e (ap (λ x. and_then x (λ v. some (with_worklist e v))) (same (p ∙ get_first T ws))) (sym (written_same T ws long))
+  queue_same m p = wrote_some T ws (entered T m e) ws e (ap (λ x. and_then x (λ v. Some (with_worklist e v))) (same (p ∙ get_first T ws))) (sym (written_same T ws long))
     where
-      same : m ≡ w.first → with_node (node_count T) w m ≡ some w
+      same : m ≡ w.first → with_node (node_count T) w m ≡ Some w
       same i = rw (le-ltb w.first m (omega (arith, i)), eq-eqb m w.first i)
 
   -- the first replaced
@@ -207,7 +206,7 @@ module _ (T : Tables) (ws : List ℕ) (long : used T ≤ length ws) where
     lower : m < w.first
     lower = rw (get_first T ws) at l
 
-    passed : (a b : Option Worklist) → cond (ltb w.first m) a (cond (eqb m w.first) (some w) b) ≡ b
+    passed : (a b : Option Worklist) → cond (ltb w.first m) a (cond (eqb m w.first) (Some w) b) ≡ b
     passed a b = rw (le-ltb w.first m (omega (arith, lower)), ne_eqb m w.first (λ z. omega (arith, lower, z)))
 
     comes_first : node_count T ≤ w.first → with_node (node_count T) w m ≡ alone (node_count T) w m
@@ -221,10 +220,10 @@ module _ (T : Tables) (ws : List ℕ) (long : used T ≤ length ws) where
     unfolding entered alone
     queue_first n = go (eqb (get_or ws 5 0) (node_count T)) refl
       where
-        found : (b : Bool) → eqb (get_or ws 5 0) (node_count T) ≡ b → entered T m e ≡ and_then (cond b (some (with_first w m)) none) (λ v. some (with_worklist e v))
+        found : (b : Bool) → eqb (get_or ws 5 0) (node_count T) ≡ b → entered T m e ≡ and_then (cond b (Some (with_first w m)) None) (λ v. Some (with_worklist e v))
         found b p =
-            ap (λ x. and_then x (λ v. some (with_worklist e v)))
-            (comes_first (rw (get_first T ws) at n) ∙ ap (λ c. cond c (some (with_first w m)) none) (ap (λ x. eqb x (node_count T)) (sym (get_first T ws)) ∙ p))
+            ap (λ x. and_then x (λ v. Some (with_worklist e v)))
+            (comes_first (rw (get_first T ws) at n) ∙ ap (λ c. cond c (Some (with_first w m)) None) (ap (λ x. eqb x (node_count T)) (sym (get_first T ws)) ∙ p))
 
         go : (b : Bool) → eqb (get_or ws 5 0) (node_count T) ≡ b → Wrote T ws (entered T m e) b (set ws 5 m)
         go true p = wrote_some T ws (entered T m e) (set ws 5 m) (with_worklist e (with_first w m)) (found true p) (first_stored m)
@@ -264,11 +263,11 @@ module _ (T : Tables) (ws : List ℕ) (long : used T ≤ length ws) where
   far_size_is : get_or (set ws 5 (node_count T)) 7 0 ≡ w.far_size
   far_size_is = get_or-set_other ws 5 7 (node_count T) 0 (λ z. omega arith) ∙ get_far_size T ws
 
-  pub drain_none : get_or (set ws 5 (node_count T)) 7 0 ≡ 0 → Wrote T ws (some (drained T e)) true (set ws 5 (node_count T))
+  pub drain_none : get_or (set ws 5 (node_count T)) 7 0 ≡ 0 → Wrote T ws (Some (drained T e)) true (set ws 5 (node_count T))
   unfolding drained forgotten
   drain_none z = (refl, first_stored (node_count T) ∙ rw (eq-eqb w.far_size 0 (sym far_size_is ∙ z)))
 
-  pub drain_far : (get_or (set ws 5 (node_count T)) 7 0 ≡ 0 → ⊥) → Wrote T ws (some (drained T e)) true (set (set (set ws 5 (node_count T)) 6 0) 7 0)
+  pub drain_far : (get_or (set ws 5 (node_count T)) 7 0 ≡ 0 → ⊥) → Wrote T ws (Some (drained T e)) true (set (set (set ws 5 (node_count T)) 6 0) 7 0)
   unfolding drained forgotten
   drain_far ne = (
     refl,
@@ -276,7 +275,7 @@ module _ (T : Tables) (ws : List ℕ) (long : used T ≤ length ws) where
         ∙ rw (ne_eqb w.far_size 0 (λ z. ne (far_size_is ∙ z))),
   )
 
-  pub dequeue_last : (ok : Bool) (after : List ℕ) → get_or ws 4 0 ≡ 0 → Wrote T ws (some (drained T e)) ok after → Wrote T ws (dequeued T e) ok after
+  pub dequeue_last : (ok : Bool) (after : List ℕ) → get_or ws 4 0 ≡ 0 → Wrote T ws (Some (drained T e)) ok after → Wrote T ws (dequeued T e) ok after
   unfolding dequeued without_first drained
   dequeue_last ok after z h = rw (eq-eqb w.others.size 0 (sym (get_worklist_size T ws) ∙ z)) h
 
@@ -408,13 +407,13 @@ module _ (T : Tables) (ws : List ℕ) (long : used T ≤ length ws) where
       after : List ℕ → Worklist
       after g = record { first = m; far = w.far; far_size = w.far_size; others = record { members = set w.others.members q left; size = w.others.size - 1 }; groups = g }
 
-      advanced_is : w.first < m → advance (node_count T) w q m ≡ some (after groups)
+      advanced_is : w.first < m → advance (node_count T) w q m ≡ Some (after groups)
       unfolding advance advanced groups filled after
       advanced_is h =
           rw (lt-ltb q (words32 (node_count T)) l, lt-ltb w.first m h, ne_eqb (get_or w.others.members q 0) 0 (λ z. ne (word ∙ z)), ← removed_is, get_or-set_same w.others.members q left 0 (omega (arith, fits.worklist)))
           (go (eqb left 0))
         where
-          go : (b : Bool) → ◌≡◌ {A = Option Worklist} (some (after (cond (not b) w.groups (removed 32 w.groups q)))) (some (after (cond b (removed 32 w.groups q) w.groups)))
+          go : (b : Bool) → ◌≡◌ {A = Option Worklist} (Some (after (cond (not b) w.groups (removed 32 w.groups q)))) (Some (after (cond b (removed 32 w.groups q) w.groups)))
           go true = refl
           go false = refl
 
@@ -422,7 +421,7 @@ module _ (T : Tables) (ws : List ℕ) (long : used T ≤ length ws) where
       unfolding advanced_to after
       advance_done h =
           wrote_some T ws (advanced_to T q e) (set (set mid 4 (get_or mid 4 0 - 1)) 5 m) d4
-          (rw found (ap (λ o. and_then o (λ v. some (with_worklist e v))) (advanced_is (rw (get_first T ws) at h))))
+          (rw found (ap (λ o. and_then o (λ v. Some (with_worklist e v))) (advanced_is (rw (get_first T ws) at h))))
           (ap (λ n. set (set mid 4 (n - 1)) 5 m) (count_stays ∙ get_worklist_size T ws)
           ∙ ap (λ y. set (set y 4 (w.others.size - 1)) 5 m) stored2
           ∙ ap (λ y. set y 5 m) (put_worklist_size T ws long d2 fits2 (w.others.size - 1))

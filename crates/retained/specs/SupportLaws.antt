@@ -1,10 +1,9 @@
 -- An atom's support: its count one up or down, then whether it is missing.
 -- Assumes nothing.
-use Rattle.std.specs.Prelude.{ℕ, ◌<◌, ◌≤◌, ◌+◌, ◌-◌, Bool, true, false, ◌&&◌, ◌||◌, List, length, get_or}
+use Rattle.std.specs.Prelude.{ℕ, ◌<◌, ◌≤◌, ◌+◌, ◌-◌, Bool, true, false, ◌&&◌, ◌||◌, List, length, get_or, Option, Some, None}
 use Rattle.std.proofs.Common.{arith, ◌∙◌}
 use Rattle.std.proofs.Math.Path.{◌≡◌, refl, ap, sym}
 use Rattle.std.proofs.Math.Bool.{and-false}
-use Rattle.std.proofs.Math.Option.{Option, some, none}
 use Rattle.std.proofs.Math.Dec.{eqb}
 use Rattle.std.proofs.Math.ListN.{set}
 use borrow.Author.Tests.{ne_eqb}
@@ -30,7 +29,7 @@ module _ (T : Tables) (ws : List ℕ) (long : used T ≤ length ws) (a : ℕ) (l
 
   -- ---- whether it is missing, as its support goes from s to n
 
-  missing_fits : (s n : ℕ) (m : CountedSet) → missing_by T a s n e ≡ some m → Fits T (with_support e e.support m)
+  missing_fits : (s n : ℕ) (m : CountedSet) → missing_by T a s n e ≡ Some m → Fits T (with_support e e.support m)
   missing_fits s n m h =
       let f = fits_of T ws long in
       record {
@@ -62,11 +61,11 @@ module _ (T : Tables) (ws : List ℕ) (long : used T ≤ length ws) (a : ℕ) (l
     counted_in : (o : Option ℕ) → o ≡ moved T.made t (get_or ws (support_start T + a) 0) → moved T.made t (get_or e.support a 0) ≡ o
     counted_in o q = ap (moved T.made t) (sym (get_support T ws long a l)) ∙ sym q
 
-    pub support_astray : none ≡ moved T.made t (get_or ws (support_start T + a) 0) → Wrote T ws (support_moved T t a e) false ws
+    pub support_astray : None ≡ moved T.made t (get_or ws (support_start T + a) 0) → Wrote T ws (support_moved T t a e) false ws
     unfolding support_moved
-    support_astray q = wrote_none T ws (support_moved T t a e) ws (rw (counted_in none q)) (beside_same T ws)
+    support_astray q = wrote_none T ws (support_moved T t a e) ws (rw (counted_in None q)) (beside_same T ws)
 
-    module _ (n : ℕ) (q : some n ≡ moved T.made t (get_or ws (support_start T + a) 0)) (mid : List ℕ) (ok : Bool)
+    module _ (n : ℕ) (q : Some n ≡ moved T.made t (get_or ws (support_start T + a) 0)) (mid : List ℕ) (ok : Bool)
         (w : Wrote T ws (missing_moved T a (get_or ws (support_start T + a) 0) n e) ok mid) where
       abbrev s : ℕ
       s = get_or ws (support_start T + a) 0
@@ -76,7 +75,7 @@ module _ (T : Tables) (ws : List ℕ) (long : used T ≤ length ws) (a : ℕ) (l
       loaded = sym (get_support T ws long a l)
 
       put : ℕ → CountedSet → Option Evaluation
-      put k m = some (with_support e (set e.support a k) m)
+      put k m = Some (with_support e (set e.support a k) m)
 
       pub support_none : ok ≡ false → Wrote T ws (support_moved T t a e) false mid
       unfolding support_moved missing_moved
@@ -84,15 +83,15 @@ module _ (T : Tables) (ws : List ℕ) (long : used T ≤ length ws) (a : ℕ) (l
           let r = wrote_false T ws (missing_moved T a s n e) mid ok w p in
           wrote_none T ws (support_moved T t a e) mid (rw (loaded, sym q, not_then (missing_by T a s n e) r.0)) r.1
         where
-          not_then : (o : Option CountedSet) → and_then o (λ m. some (with_support e e.support m)) ≡ none → o ≡ none
-          not_then none h = refl
-          not_then (some m) h = let z : ◌≡◌ {A = ℕ} 0 1 = cc in absurd (omega arith)
+          not_then : (o : Option CountedSet) → and_then o (λ m. Some (with_support e e.support m)) ≡ None → o ≡ None
+          not_then None h = refl
+          not_then (Some m) h = let z : ◌≡◌ {A = ℕ} 0 1 = cc in absurd (omega arith)
 
       pub support_done : ok ≡ true → Wrote T ws (support_moved T t a e) true (set mid (support_start T + a) n)
       unfolding support_moved missing_moved put
       support_done p =
           let r = wrote_true T ws (missing_moved T a s n e) mid ok w p in
-          let m = then_some (missing_by T a s n e) (λ m. some (with_support e e.support m)) r.0 r.1 in
+          let m = then_some (missing_by T a s n e) (λ m. Some (with_support e e.support m)) r.0 r.1 in
           let was : mid ≡ written T ws (with_support e e.support m.0) = r.2 ∙ ap (written T ws) (sym (some_is (with_support e e.support m.0) r.0 m.2)) in
           wrote_some T ws (support_moved T t a e) (set mid (support_start T + a) n) (with_support e (set e.support a n) m.0)
           (ap (λ x. and_then (moved T.made t x) (λ k. and_then (missing_by T a x k e) (put k))) loaded

@@ -2,7 +2,6 @@
 #![tactic(auto)]
 
 ghost use Rattle.std.specs.Prelude.{◌≡◌, true, false, ◌&&◌, ◌+◌, ◌-◌, ◌*◌, ◌/◌, ◌<◌, ◌≤◌, eqb, ltb, length, get_or, set};
-ghost use Rattle.std.proofs.Math.Option.{some};
 ghost use Rattle.theory.specs.Limits.{Limited};
 ghost use Rattle.words.specs.Next.{next};
 ghost use Rattle.kept.specs.SetOf.{words32};
@@ -165,7 +164,7 @@ fn advance(counts: Counts, kept: &mut [u32], k: usize, q: usize) -> bool
 // The first leaves and no other waits: nothing is remembered.
 fn drain(counts: Counts, kept: &mut [u32]) -> bool
     requires { Limited counts × (used_by counts ≤ length kept.old) }
-    ensures { (T : Tables) → Wrote (sized counts T) kept.old (some (drained (sized counts T) (of_words (sized counts T) kept.old))) result kept.new }
+    ensures { (T : Tables) → Wrote (sized counts T) kept.old (Some (drained (sized counts T) (of_words (sized counts T) kept.old))) result kept.new }
 {
     kept[5] = counts.nodes as u32;
     if kept[7] == 0 {

@@ -1,6 +1,6 @@
 -- The checks of a file, one line a candidate.
 -- Assumes nothing.
-use Rattle.std.specs.Prelude.{ℕ, ◌+◌, ◌*◌, ◌<◌, ◌≤◌, ◌≡◌, refl, List, [], ◌∷◌, ◌++◌, length, get_or, take, drop, replicate}
+use Rattle.std.specs.Prelude.{ℕ, ◌+◌, ◌*◌, ◌<◌, ◌≤◌, ◌≡◌, refl, List, [], ◌∷◌, ◌++◌, length, get_or, take, drop, replicate, Ok}
 use Rattle.std.proofs.Common.{add-one, arith, sym, ◌∙◌, append-nil, append_assoc, drop_of_length-le, take_at, drop-cons}
 use Rattle.std.proofs.Math.Path.{ap}
 use Rattle.std.proofs.lemmas.List.{length-replicate}
@@ -10,7 +10,6 @@ use Rattle.record.specs.Contents.{nothing}
 use Rattle.record.specs.File.{File, sound, refused, theory_file, verdict, start}
 use Rattle.record.specs.Bounds.{Within}
 use Rattle.record.specs.declared.Summary.{Summary}
-use Rattle.record.specs.declared.Judged.TheVariants as judgment
 use Rattle.record.proofs.Judging.{contents_of, sound-is, read_keeps}
 use Rattle.record.proofs.Steps.{next_within, start_within}
 use Rattle.file_reader.specs.Insert.{inserted_all}
@@ -53,7 +52,7 @@ unfolding contents_of candidates_of
 candidates_read (sound s t) = refl
 candidates_read (refused r) = refl
 
-module _ (file : List ℕ) (s : Summary) (e : verdict (theory_file file) ≡ judgment.Sound s) where
+module _ (file : List ℕ) (s : Summary) (e : verdict (theory_file file) ≡ Ok s) where
   pub file_candidates : Candidates file s.counts.atoms s.first s.candidates (candidates_in file)
   file_candidates =
       rw (candidates_read (theory_file file)) at

@@ -1,14 +1,11 @@
 -- A file that a run plans: what its checks are lent.
 -- Assumes nothing.
-use Rattle.std.specs.Prelude.{ℕ, ◌≤◌, ◌≡◌, List, map, length}
+use Rattle.std.specs.Prelude.{ℕ, ◌≤◌, ◌≡◌, List, map, length, Ok}
 use Rattle.record.specs.File.{theory_file, verdict}
 use Rattle.record.specs.declared.Summary.{Summary}
-use Rattle.record.specs.declared.Judged.TheVariants as judgment
 use Rattle.load.specs.Loading.{loading}
 use Rattle.load.specs.Tables as tables
-use Rattle.load.specs.declared.Loaded.TheVariants as loads
 use Rattle.plan.specs.Outcome as planning
-use Rattle.plan.specs.declared.Planning.TheVariants.{Planned}
 use Rattle.kept.specs.Tables.{Tables}
 use Rattle.kept.specs.Series.{series_words}
 use Rattle.series.specs.Lent.{lent}
@@ -29,10 +26,10 @@ module _ (file : List ℕ) where
   -- the file is sound, its theory loaded and planned
   pub record PlannedFile (s : Summary) (p : ℕ) : Type 0 where
     pub short : length file ≤ 65536
-    pub sound : verdict (theory_file file) ≡ judgment.Sound s
+    pub sound : verdict (theory_file file) ≡ Ok s
     pub few_atoms : s.counts.atoms ≤ 512
-    pub loaded : (loading (theory_file file) own_tables).answer ≡ loads.Sound s
-    pub planned : (plan_made s).answer ≡ Planned p
+    pub loaded : (loading (theory_file file) own_tables).answer ≡ Ok s
+    pub planned : (plan_made s).answer ≡ Ok p
 
 -- the kept evaluation lent to the check that comes after these candidates
 abbrev pub words_lent : Tables → List ℕ → List (List ℕ) → List ℕ

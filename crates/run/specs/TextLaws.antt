@@ -1,6 +1,6 @@
 -- What the text is at each exit of a run.
 -- Assumes nothing.
-use Rattle.std.specs.Prelude.{ℕ, ◌<◌, ◌≤◌, ◌≡◌, Bool, true, false, cond, List, ◌++◌, ltb, length, take, replicate}
+use Rattle.std.specs.Prelude.{ℕ, ◌<◌, ◌≤◌, ◌≡◌, Bool, true, false, cond, List, ◌++◌, ltb, length, take, replicate, Ok, Err}
 use Rattle.std.proofs.Common.{arith, ap, ◌∙◌, length-append, length-take, lt-ltb, le-ltb}
 use Rattle.std.proofs.Math.Path.{sym}
 use Rattle.theory.specs.Limits.{Lent}
@@ -10,18 +10,15 @@ use Rattle.theory.specs.declared.Refusal.TheVariants.{PastLimit, ShortBuffer}
 use Rattle.record.specs.Contents.{Contents}
 use Rattle.record.specs.File.{File, sound, refused, theory_file, verdict}
 use Rattle.record.specs.declared.Summary.{Summary}
-use Rattle.record.specs.declared.Judged.TheVariants as judgment
 use Rattle.record.proofs.Judging.{contents_of, sound-is, refused_is}
 use Rattle.load.specs.Loading as loading
 use Rattle.load.specs.Loading.{loading, loading_sound}
 use Rattle.load.specs.Tables as tables
 use Rattle.load.specs.declared.Loaded as loaded
-use Rattle.load.specs.declared.Loaded.TheVariants as loads
 use Rattle.load.proofs.Loads as ways
 use Rattle.load.proofs.Admitted.{loaded_sound}
 use Rattle.plan.specs.Outcome as planning
 use Rattle.plan.specs.declared.Planning as plans
-use Rattle.plan.specs.declared.Planning.TheVariants as planned
 use Rattle.evaluate.specs.Checks.{tables_of}
 use Rattle.text.specs.Lines.{theory_line, ranks_line, refused_line}
 use Rattle.text.specs.LinesLaws.{length-theory_line, length-ranks_line}
@@ -35,11 +32,11 @@ length_head t p ranks h =
 
 module _ (t : Counts) (nodes operands roots : List ℕ) (cs : List (List ℕ)) (a : plans.Planning) (ps rs us ws : List ℕ)
     (e : planning.outcome a ps rs us ws ≡ own_plan t nodes operands roots) where
-  pub plan_refused : (r : Refusal) → a ≡ planned.Refused r → refused_line r ≡ planned_text t nodes operands roots cs (own_plan t nodes operands roots)
+  pub plan_refused : (r : Refusal) → a ≡ Err r → refused_line r ≡ planned_text t nodes operands roots cs (own_plan t nodes operands roots)
   unfolding planned_text answered
   plan_refused r q = rw (← e, q)
 
-  pub plan_accepted : (p : ℕ) → a ≡ planned.Planned p
+  pub plan_accepted : (p : ℕ) → a ≡ Ok p
       → (theory_line t p ++ ranks_line (take t.atoms rs)) ++ check_lines (tables_of t (record { stamp = t.stamp; producers = p }) nodes operands roots ps us) 0 cs (replicate 4112 0)
       ≡ planned_text t nodes operands roots cs (own_plan t nodes operands roots)
   unfolding planned_text answered
@@ -48,12 +45,12 @@ module _ (t : Counts) (nodes operands roots : List ℕ) (cs : List (List ℕ)) (
 -- ---- loading
 
 -- only a sound file is loaded: its own summary is told, and the tables are long enough
-loaded_of : (s s' : Summary) (t : Contents) (b : tables.Tables) → (loading_sound s t b).answer ≡ loads.Sound s'
+loaded_of : (s s' : Summary) (t : Contents) (b : tables.Tables) → (loading_sound s t b).answer ≡ Ok s'
     → (s ≡ s') × Lent s.counts (length b.nodes) (length b.operands) (length b.roots)
 loaded_of s s' t b e = go (ways.loads s t b)
   where
-    no : (r : Refusal) → loading_sound s t b ≡ loading.outcome (loads.Refused r) b → ⊥
-    no r q = let f : loads.Refused r ≡ loads.Sound s' = sym (ap (λ o. o.answer) q) ∙ e in let z : ◌≡◌ {A = ℕ} 0 1 = cc in omega arith
+    no : (r : Refusal) → loading_sound s t b ≡ loading.outcome (Err r) b → ⊥
+    no r q = let f : Err r ≡ Ok s' = sym (ap (λ o. o.answer) q) ∙ e in let z : ◌≡◌ {A = ℕ} 0 1 = cc in omega arith
 
     go : ways.Loads s t b → (s ≡ s') × Lent s.counts (length b.nodes) (length b.operands) (length b.roots)
     go (ways.nodes_short n q) = absurd (no _ q)
@@ -61,12 +58,12 @@ loaded_of s s' t b e = go (ways.loads s t b)
     go (ways.roots_short n o r q) = absurd (no _ q)
     go (ways.all_long l q) = ((loaded_sound s' s t b e).0, l)
 
-pub loaded_own : (f : File) (s s' : Summary) (b : tables.Tables) → verdict f ≡ judgment.Sound s → (loading f b).answer ≡ loads.Sound s'
+pub loaded_own : (f : File) (s s' : Summary) (b : tables.Tables) → verdict f ≡ Ok s → (loading f b).answer ≡ Ok s'
     → (s ≡ s') × Lent s.counts (length b.nodes) (length b.operands) (length b.roots)
 unfolding loading
 loaded_own f s s' b e q = loaded_of s s' (contents_of f) b (ap (λ g. (loading g b).answer) (sym (sound-is f s e)) ∙ q)
 
-module _ (f : File) (s : Summary) (sounds : verdict f ≡ judgment.Sound s) where
+module _ (f : File) (s : Summary) (sounds : verdict f ≡ Ok s) where
   pub too_many_atoms : 512 < s.counts.atoms → refused_line (ShortBuffer 0) ≡ sound_text s f
   unfolding sound_text
   too_many_atoms h = rw (lt-ltb 512 s.counts.atoms h)
@@ -76,11 +73,11 @@ module _ (f : File) (s : Summary) (sounds : verdict f ≡ judgment.Sound s) wher
     unfolding sound_text
     within = rw (le-ltb 512 s.counts.atoms few)
 
-    pub load_refused : (r : Refusal) → a ≡ loads.Refused r → refused_line r ≡ sound_text s f
+    pub load_refused : (r : Refusal) → a ≡ Err r → refused_line r ≡ sound_text s f
     unfolding loaded_text
     load_refused r q = rw (← e, q) at within
 
-    pub load-sound : (s' : Summary) → a ≡ loads.Sound s'
+    pub load-sound : (s' : Summary) → a ≡ Ok s'
         → planned_text s.counts b.nodes b.operands b.roots (candidates_of f) (own_plan s.counts b.nodes b.operands b.roots) ≡ sound_text s f
     unfolding loaded_text
     load-sound s' q =
@@ -88,7 +85,7 @@ module _ (f : File) (s : Summary) (sounds : verdict f ≡ judgment.Sound s) wher
 
 -- ---- the file
 
-sound_of : (f : File) (s : Summary) → verdict f ≡ judgment.Sound s → sound_text s f ≡ file_text f
+sound_of : (f : File) (s : Summary) → verdict f ≡ Ok s → sound_text s f ≡ file_text f
 unfolding verdict file_text
 sound_of (sound s' t) s e = let q : s ≡ s' = cc in rw q
 sound_of (refused r) s e = let k : ◌≡◌ {A = ℕ} 0 1 = cc in absurd (omega arith)
@@ -103,11 +100,11 @@ module _ (file : List ℕ) where
     unfolding text_of
     whole = rw (le-ltb 65536 (length file) short)
 
-    pub file_refused : (r : Refusal) → verdict (theory_file file) ≡ judgment.Refused r → refused_line r ≡ text_of file
+    pub file_refused : (r : Refusal) → verdict (theory_file file) ≡ Err r → refused_line r ≡ text_of file
     unfolding file_text
     file_refused r e = sym (ap file_text (refused_is (theory_file file) r e)) ∙ whole
 
-    pub file_sound : (s : Summary) → verdict (theory_file file) ≡ judgment.Sound s → sound_text s (theory_file file) ≡ text_of file
+    pub file_sound : (s : Summary) → verdict (theory_file file) ≡ Ok s → sound_text s (theory_file file) ≡ text_of file
     file_sound s e = sound_of (theory_file file) s e ∙ whole
 
 -- ---- a text is never empty, so a run's answer of 0 says that it does not fit
@@ -123,13 +120,13 @@ some_of false x y p q = q
 answered-some : (t : Counts) (nodes operands roots : List ℕ) (cs : List (List ℕ)) (o : planning.Outcome) (a : plans.Planning)
     → 0 < length (answered t nodes operands roots cs o a)
 unfolding answered theory_line
-answered-some t nodes operands roots cs o (planned.Planned p) = omega arith
-answered-some t nodes operands roots cs o (planned.Refused r) = refusal_some r
+answered-some t nodes operands roots cs o (Ok p) = omega arith
+answered-some t nodes operands roots cs o (Err r) = refusal_some r
 
 loaded_some : (cs : List (List ℕ)) (a : loaded.Loaded) (b : tables.Tables) → 0 < length (loaded_text cs a b)
 unfolding loaded_text planned_text
-loaded_some cs (loads.Sound s) b = answered-some s.counts b.nodes b.operands b.roots cs (own_plan s.counts b.nodes b.operands b.roots) _
-loaded_some cs (loads.Refused r) b = refusal_some r
+loaded_some cs (Ok s) b = answered-some s.counts b.nodes b.operands b.roots cs (own_plan s.counts b.nodes b.operands b.roots) _
+loaded_some cs (Err r) b = refusal_some r
 
 sound-some : (s : Summary) (f : File) → 0 < length (sound_text s f)
 unfolding sound_text

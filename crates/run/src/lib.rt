@@ -91,7 +91,7 @@ fn check_lines(
     out: &mut [u8],
     at: usize,
 ) -> usize
-    requires { (verdict (theory_file file.now) ≡ Judged.Sound s) × (s.counts.atoms ≤ 512) × (length file.now ≤ 65536) × (at ≤ 2 ^ 39) }
+    requires { (verdict (theory_file file.now) ≡ Ok s) × (s.counts.atoms ≤ 512) × (length file.now ≤ 65536) × (at ≤ 2 ^ 39) }
     ensures { Put out.old at (check_lines (tables_of s.counts plan nodes.now operands.now roots.now producers.now readers.now) 0 (candidates_in file.now) (replicate 4112 0)) result out.new }
 {
     let mut words = [0u64; 8];
@@ -121,7 +121,7 @@ fn plan_lines(
     roots: &[u32],
     out: &mut [u8],
 ) -> usize
-    requires { (verdict (theory_file file.now) ≡ Judged.Sound s) × (s.counts.atoms ≤ 512) × (length file.now ≤ 65536) }
+    requires { (verdict (theory_file file.now) ≡ Ok s) × (s.counts.atoms ≤ 512) × (length file.now ≤ 65536) }
     ensures { Put out.old 0 (planned_text s.counts nodes.now operands.now roots.now (candidates_in file.now) (own_plan s.counts nodes.now operands.now roots.now)) result out.new }
 {
     let mut producers = [0u32; 2048];
@@ -139,8 +139,8 @@ fn plan_lines(
         &mut work,
     );
     match planning {
-        Planning::Refused(r) => text::refused_line(out, 0, r),
-        Planning::Planned(p) => {
+        Err(r) => text::refused_line(out, 0, r),
+        Ok(p) => {
             let plan = Plan {
                 stamp: s.counts.stamp,
                 producers: p,
@@ -165,7 +165,7 @@ fn head_lines(out: &mut [u8], counts: Counts, p: usize, ranks: &[u32]) -> usize
 
 // A sound file: 9 by the run's own tables, or else loaded.
 fn sound_lines(file: &[u8], s: Summary, out: &mut [u8]) -> usize
-    requires { (verdict (theory_file file.now) ≡ Judged.Sound s) × (length file.now ≤ 65536) }
+    requires { (verdict (theory_file file.now) ≡ Ok s) × (length file.now ≤ 65536) }
     ensures { Put out.old 0 (sound_text s (theory_file file.now)) result out.new }
 {
     if s.counts.atoms > 512 {
@@ -175,8 +175,8 @@ fn sound_lines(file: &[u8], s: Summary, out: &mut [u8]) -> usize
     let mut operands = [0u32; 1024];
     let mut roots = [0u32; 512];
     match load::load_sound(file, s, &mut nodes, &mut operands, &mut roots) {
-        Loaded::Refused(r) => text::refused_line(out, 0, r),
-        Loaded::Sound(_) => plan_lines(file, s, &nodes, &operands, &roots, out),
+        Err(r) => text::refused_line(out, 0, r),
+        Ok(_) => plan_lines(file, s, &nodes, &operands, &roots, out),
     }
 }
 
@@ -188,8 +188,8 @@ fn lines(file: &[u8], out: &mut [u8]) -> usize
         return text::refused_line(out, 0, Refusal::PastLimit(65536));
     }
     match record::judge(file) {
-        Judged::Refused(r) => text::refused_line(out, 0, r),
-        Judged::Sound(s) => sound_lines(file, s, out),
+        Err(r) => text::refused_line(out, 0, r),
+        Ok(s) => sound_lines(file, s, out),
     }
 }
 

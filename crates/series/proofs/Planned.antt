@@ -1,5 +1,6 @@
 -- An accepted planning call leaves planned tables.
 -- Assumes nothing.
+use Rattle.std.specs.Prelude.{Ok, Err}
 use Prim.Native.Nat.{ℕ, ◌+◌, ◌-◌, ◌*◌, ◌<◌, ◌≤◌}
 use native.Mathlib.Omega.{arith}
 use mathlib.Core.Path.{◌≡◌, refl, ap, sym, ◌∙◌}
@@ -11,13 +12,11 @@ use lib.Seq.{length-take-le, take-append_seam}
 use borrow.Author.Tests.{lt-ltb, le-ltb}
 use Rattle.base.specs.Front.{front, length_of_front}
 use Rattle.graph.specs.Derive.{Derived, ranks, cycle}
-use Rattle.theory.specs.Admission.{admission}
+use Rattle.theory.specs.Admission.{admission, Admission, admitted}
 use Rattle.theory.specs.Limits.{limits_of, Limited}
 use Rattle.theory.specs.Refusals.{not_both, or_else_left, or-else-right}
 use Rattle.theory.specs.WellFormed.{NodeTables, RootTable, WellFormed}
 use Rattle.theory.specs.declared.Counts.{Counts}
-use Rattle.theory.specs.declared.Admission.{Admission}
-use Rattle.theory.specs.declared.Admission.TheVariants as admitted
 use Rattle.theory.proofs.Admitted.{admitted_formed}
 use Rattle.compile.specs.Producers.{roots_supported, producers_before, producer_words}
 use Rattle.compile.specs.ProducersLaws.{few-producers, length-words}
@@ -42,7 +41,6 @@ use Rattle.plan.specs.Judged.{classes, judged, derived, acyclic, plan_judged, ce
 use Rattle.plan.specs.Outcome.{producers_of, planned, ranks_of, lengths, plan_outcome, certify_outcome}
 use Rattle.plan.specs.Written.{written-planned}
 use Rattle.plan.specs.declared.Lengths.{Lengths}
-use Rattle.plan.specs.declared.Planning.TheVariants.{Planned}
 use Rattle.kept.specs.Tables.{between, list_at}
 use Rattle.kept.specs.Planned.{PlannedTables}
 use Rattle.series.specs.Lent.{lent}
@@ -70,20 +68,20 @@ module _ (t : Counts) (nodes operands roots ps rs us ws : List ℕ) where
   abbrev lists : ℕ → List ℕ
   lists s = list_of t nodes operands roots written (length made) s
 
-  module _ (j : judged t nodes operands roots lengths_of ≡ admitted.Admitted) where
-    limits : limits_of t ≡ admitted.Admitted
+  module _ (j : judged t nodes operands roots lengths_of ≡ admitted) where
+    limits : limits_of t ≡ admitted
     unfolding judged
     limits = or_else_left _ _ j
 
-    buffers : short_buffer t lengths_of ≡ admitted.Admitted
+    buffers : short_buffer t lengths_of ≡ admitted
     unfolding judged
     buffers = or_else_left _ _ (or-else-right (limits_of t) _ j)
 
-    entered : admission t nodes operands roots ≡ admitted.Admitted
+    entered : admission t nodes operands roots ≡ admitted
     unfolding judged
     entered = or_else_left _ _ (or-else-right (short_buffer t lengths_of) _ (or-else-right (limits_of t) _ j))
 
-    pub supported : roots_supported t nodes operands classes_of roots ≡ admitted.Admitted
+    pub supported : roots_supported t nodes operands classes_of roots ≡ admitted
     unfolding judged
     supported = or-else-right (admission t nodes operands roots) _ (or-else-right (short_buffer t lengths_of) _ (or-else-right (limits_of t) _ j))
 
@@ -153,8 +151,8 @@ module _ (t : Counts) (nodes operands roots ps rs us ws : List ℕ) where
     unfolding front
     words_there = ap (λ n. take n (producer_words made ++ drop (length (producer_words made)) ps)) (sym (length-words made)) ∙ take-append_seam (producer_words made) _
 
-    planned-by : (ranked : List ℕ) → rank_check t nodes operands classes_of roots ranked ≡ admitted.Admitted
-        → PlannedTables (lent t nodes operands roots (length made) (planned t nodes operands roots ps rs us ws admitted.Admitted ranked))
+    planned-by : (ranked : List ℕ) → rank_check t nodes operands classes_of roots ranked ≡ admitted
+        → PlannedTables (lent t nodes operands roots (length made) (planned t nodes operands roots ps rs us ws admitted ranked))
     unfolding planned list_at producers_before
     planned-by ranked accepted =
         record {
@@ -172,26 +170,26 @@ module _ (t : Counts) (nodes operands roots ps rs us ws : List ℕ) where
         }
 
     -- derived ranks are accepted
-    accepted_derived : (d : Derived) → derived t nodes operands roots ≡ d → acyclic t nodes operands roots d ≡ admitted.Admitted
-        → rank_check t nodes operands classes_of roots (ranks_of t nodes operands roots d) ≡ admitted.Admitted
+    accepted_derived : (d : Derived) → derived t nodes operands roots ≡ d → acyclic t nodes operands roots d ≡ admitted
+        → rank_check t nodes operands classes_of roots (ranks_of t nodes operands roots d) ≡ admitted
     unfolding derived
     accepted_derived (ranks found) q c = derived_accepted t nodes operands classes_of roots well tables classed found q
     accepted_derived (cycle a) q c = absurd (not_both _ c)
 
   -- an answer with producers is an admission
-  pub answered : (p : ℕ) (j : Admission) (ranked : List ℕ) → (planned t nodes operands roots ps rs us ws j ranked).answer ≡ Planned p → (j ≡ admitted.Admitted) × (length made ≡ p)
+  pub answered : (p : ℕ) (j : Admission) (ranked : List ℕ) → (planned t nodes operands roots ps rs us ws j ranked).answer ≡ Ok p → (j ≡ admitted) × (length made ≡ p)
   unfolding planned
-  answered p admitted.Admitted ranked e = (refl, cc)
-  answered p (admitted.Refused r) ranked e = (cc, cc)
+  answered p (Ok u) ranked e = (refl, cc)
+  answered p (Err r) ranked e = (cc, cc)
 
-  pub certify-planned : (proposed : List ℕ) (p : ℕ) → (certify_outcome t nodes operands roots proposed ps rs us ws).answer ≡ Planned p
+  pub certify-planned : (proposed : List ℕ) (p : ℕ) → (certify_outcome t nodes operands roots proposed ps rs us ws).answer ≡ Ok p
       → PlannedTables (lent t nodes operands roots p (certify_outcome t nodes operands roots proposed ps rs us ws))
   unfolding certify_outcome certify_judged
   certify-planned proposed p e =
       let a = answered p _ proposed e in
       rw (a.0, ← a.1) (planned-by (or_else_left (judged t nodes operands roots lengths_of) _ a.0) proposed (or-else-right (judged t nodes operands roots lengths_of) _ a.0))
 
-  pub plan-planned : (p : ℕ) → (plan_outcome t nodes operands roots ps rs us ws).answer ≡ Planned p
+  pub plan-planned : (p : ℕ) → (plan_outcome t nodes operands roots ps rs us ws).answer ≡ Ok p
       → PlannedTables (lent t nodes operands roots p (plan_outcome t nodes operands roots ps rs us ws))
   unfolding plan_outcome plan_judged
   plan-planned p e =

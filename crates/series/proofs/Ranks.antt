@@ -1,5 +1,6 @@
 -- Demand 2 of the public calls: the ranks that `plan` writes are the least that `certify` accepts, and it reports a positive cycle exactly if `certify` accepts none.
 -- Assumes nothing.
+use Rattle.std.specs.Prelude.{Ok, Err}
 use Prim.Native.Nat.{ℕ, ◌<◌}
 use native.Mathlib.Omega.{arith}
 use mathlib.Core.Path.{◌≡◌, refl, ap, sym, ◌∙◌}
@@ -11,8 +12,6 @@ use Rattle.base.specs.Front.{front}
 use Rattle.graph.specs.Derive.{Derived, ranks, cycle}
 use Rattle.theory.specs.WellFormed.{NodeTables, WellFormed}
 use Rattle.theory.specs.declared.Counts.{Counts}
-use Rattle.theory.specs.declared.Admission.{Admission}
-use Rattle.theory.specs.declared.Admission.TheVariants as admission
 use Rattle.theory.specs.declared.Refusal.{Refusal}
 use Rattle.theory.specs.declared.Refusal.TheVariants.{PositiveCycle}
 use Rattle.ranks.specs.Classed.{Classed}
@@ -22,12 +21,12 @@ use Rattle.plan.specs.Judged.{classes, derived, acyclic, plan_judged, certify_ju
 use Rattle.plan.specs.Finished.{accepted_by}
 use Rattle.plan.specs.Called.{accepted-long}
 use Rattle.plan.specs.Outcome.{producers_of, planned, ranks_of, plan_outcome, certify_outcome}
-use Rattle.plan.specs.declared.Planning.TheVariants.{Planned, Refused}
 use Rattle.series.specs.Ranks.{RootsAdmitted, plan_made, rank_of, Derives, Reports, Answers, certify_made, Certifies, Demand2Ranks}
 use Rattle.series.proofs.Planned.{supported, well, tables, classed, answered}
 use Rattle.series.proofs.Admitted.{answers_admitted}
+use Rattle.theory.specs.Admission.{Admission, admitted}
 
-no_refusal : (r : Refusal) (p : ℕ) → Refused r ≡ Planned p → ⊥
+no_refusal : (r : Refusal) (p : ℕ) → Err r ≡ Ok p → ⊥
 no_refusal r p e = let z : ◌≡◌ {A = ℕ} 0 1 = cc in omega arith
 
 module _ (t : Counts) (nodes operands roots ps rs us ws : List ℕ) (j : RootsAdmitted t nodes operands roots ps rs us ws) where
@@ -58,7 +57,7 @@ module _ (t : Counts) (nodes operands roots ps rs us ws : List ℕ) (j : RootsAd
   certify_by_lem proposed = rw j
 
   -- `certify` accepts exactly what the rank check accepts
-  certifies_is : (proposed : List ℕ) → Certifies t nodes operands roots ps rs us ws proposed ↔ (rank_test proposed ≡ admission.Admitted)
+  certifies_is : (proposed : List ℕ) → Certifies t nodes operands roots ps rs us ws proposed ↔ (rank_test proposed ≡ admitted)
   unfolding planned
   certifies_is proposed = (
     λ w. (answered t nodes operands roots ps rs us ws w.0 (rank_test proposed) proposed (sym (ap (λ o. o.answer) (certify_by_lem proposed)) ∙ w.1)).0,
@@ -86,12 +85,12 @@ module _ (t : Counts) (nodes operands roots ps rs us ws : List ℕ) (j : RootsAd
     where
       go : (d : Derived) → derived t nodes operands roots ≡ d → derived t nodes operands roots ≡ cycle a
       go (ranks found) d = let w = found_derives found d in absurd (no_refusal (PositiveCycle a) w.0 (sym e ∙ w.1))
-      go (cycle c) d = let g : Refused (PositiveCycle c) ≡ Refused (PositiveCycle a) = sym (cycle_reports c d) ∙ e in cc
+      go (cycle c) d = let g : Err (PositiveCycle c) ≡ Err (PositiveCycle a) = sym (cycle_reports c d) ∙ e in cc
 
   -- ---- the ranks written
 
   module _ (found : List ℕ) (d : derived t nodes operands roots ≡ ranks found) where
-    found_accepted : rank_test found ≡ admission.Admitted
+    found_accepted : rank_test found ≡ admitted
     unfolding derived
     found_accepted = check.derived_accepted t nodes operands classes_of roots formed in_tables in_classes found d
 

@@ -1,22 +1,21 @@
 -- Demand 2 of the public calls, on ranks: what `plan` derives, and what `certify` accepts on the same buffers.
 -- Assumes nothing.
-use Rattle.std.specs.Prelude.{ℕ, ◌+◌, ◌<◌, ◌≤◌, ◌≡◌, ◌⊎◌, ◌↔◌, List, get_or, take}
+use Rattle.std.specs.Prelude.{ℕ, ◌+◌, ◌<◌, ◌≤◌, ◌≡◌, ◌⊎◌, ◌↔◌, List, get_or, take, Ok, Err}
 use Rattle.graph.specs.Edge.{Edge}
 use Rattle.graph.specs.Longest.{Longest}
 use Rattle.graph.specs.Cycle.{LowestBehind}
 use Rattle.graph.specs.Right.{Stuck}
 use Rattle.theory.specs.declared.Counts.{Counts}
-use Rattle.theory.specs.declared.Admission.TheVariants.{Admitted}
 use Rattle.theory.specs.declared.Refusal.TheVariants.{PositiveCycle}
 use Rattle.ranks.specs.Dependency.{dependencies}
 use Rattle.plan.specs.Judged.{classes, judged}
 use Rattle.plan.specs.Outcome.{Outcome, lengths, plan_outcome, certify_outcome}
-use Rattle.plan.specs.declared.Planning.TheVariants.{Planned, Refused}
+use Rattle.theory.specs.Admission.{admitted}
 
 module _ (t : Counts) (nodes operands roots ps rs us ws : List ℕ) where
   -- all roots are admitted: none of the refusals 1 to 11
   abbrev pub RootsAdmitted : Type 0
-  RootsAdmitted = judged t nodes operands roots (lengths t nodes operands roots ps rs us ws) ≡ Admitted
+  RootsAdmitted = judged t nodes operands roots (lengths t nodes operands roots ps rs us ws) ≡ admitted
 
   -- the outcome of `plan`, and the rank that it wrote for an atom
   abbrev pub plan_made : Outcome
@@ -27,11 +26,11 @@ module _ (t : Counts) (nodes operands roots ps rs us ws : List ℕ) where
 
   -- `plan` derives ranks
   abbrev pub Derives : Type 0
-  Derives = (p : ℕ) × (plan_made.answer ≡ Planned p)
+  Derives = (p : ℕ) × (plan_made.answer ≡ Ok p)
 
   -- `plan` reports a positive cycle and names the atom a
   abbrev pub Reports : ℕ → Type 0
-  Reports a = plan_made.answer ≡ Refused (PositiveCycle a)
+  Reports a = plan_made.answer ≡ Err (PositiveCycle a)
 
   -- `plan` does one of the two
   abbrev pub Answers : Type 0
@@ -43,7 +42,7 @@ module _ (t : Counts) (nodes operands roots ps rs us ws : List ℕ) where
 
   -- `certify` accepts them
   abbrev pub Certifies : List ℕ → Type 0
-  Certifies proposed = (p : ℕ) × ((certify_made proposed).answer ≡ Planned p)
+  Certifies proposed = (p : ℕ) × ((certify_made proposed).answer ≡ Ok p)
 
   -- the theory's dependencies; a strict edge, into an atom, is a producer step
   abbrev pub edges : List Edge

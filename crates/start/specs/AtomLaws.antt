@@ -1,8 +1,7 @@
 -- One atom moved: missing or not, then its atom nodes onto the worklist.
 -- Assumes nothing.
-use Rattle.std.specs.Prelude.{ℕ, ◌≤◌, ◌≡◌, refl, Bool, true, false, ◌&&◌, List, length, get_or}
+use Rattle.std.specs.Prelude.{ℕ, ◌≤◌, ◌≡◌, refl, Bool, true, false, ◌&&◌, List, length, get_or, Option, Some, None}
 use Rattle.std.proofs.Common.{ap, sym, ◌∙◌}
-use Rattle.std.proofs.Math.Option.{Option, some, none}
 use Rattle.std.proofs.Math.Dec.{eqb}
 use Rattle.formula.specs.Satisfaction.{Interpretation}
 use Rattle.readers.specs.Incidences.{atom_slot}
@@ -25,11 +24,11 @@ module _ (T : Tables) (a : ℕ) where
   abbrev slot : ℕ
   slot = atom_slot (node_count T) a
 
-  nodes_there : in_order T.readers (reader_words T.counts) slot ≡ true → atom_nodes_at T a ≡ some (laying.list_at T.readers slot)
+  nodes_there : in_order T.readers (reader_words T.counts) slot ≡ true → atom_nodes_at T a ≡ Some (laying.list_at T.readers slot)
   unfolding list_at between in_order laying.list_at
   nodes_there e = rw e
 
-  nodes_none : in_order T.readers (reader_words T.counts) slot ≡ false → atom_nodes_at T a ≡ none
+  nodes_none : in_order T.readers (reader_words T.counts) slot ≡ false → atom_nodes_at T a ≡ None
   unfolding list_at between in_order
   nodes_none e = rw e
 
@@ -39,7 +38,7 @@ module _ (T : Tables) (a : ℕ) where
   unfolding atom_moved
   moved_twice J x e p = rw p
 
-  presence_fits : (x : Bool) (e d : Evaluation) → presence_turned T a x e ≡ some d → Fits T e → Fits T d
+  presence_fits : (x : Bool) (e d : Evaluation) → presence_turned T a x e ≡ Some d → Fits T e → Fits T d
   unfolding presence_turned
   presence_fits x e d h f =
       let m = missing_turned_lem T e d a (x && eqb (get_or e.support a 0) 0) h in
@@ -77,5 +76,5 @@ module _ (T : Tables) (a : ℕ) where
       pub turn_done : in_order T.readers (reader_words T.counts) slot ≡ true → (list : List ℕ) → list ≡ laying.list_at T.readers slot → (r : Bool) (after : List ℕ)
           → Wrote T mid (all_entered T (of_words T mid) list) r after → Wrote T ws whole r after
       turn_done s list p r after h =
-          let there : atom_nodes_at T a ≡ some list = nodes_there s ∙ ap some (sym p) in
+          let there : atom_nodes_at T a ≡ Some list = nodes_there s ∙ ap Some (sym p) in
           onward_then T ws whole room mid (rest (of_words T mid)) then_nodes r after (rw there h)

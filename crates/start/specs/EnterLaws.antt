@@ -1,8 +1,7 @@
 -- The nodes of a list, entered one after the other.
 -- Assumes nothing.
-use Rattle.std.specs.Prelude.{ℕ, ◌<◌, ◌≤◌, ◌+◌, ◌≡◌, refl, Bool, true, false, List, [], ◌∷◌, length, get_or, drop}
+use Rattle.std.specs.Prelude.{ℕ, ◌<◌, ◌≤◌, ◌+◌, ◌≡◌, refl, Bool, true, false, List, [], ◌∷◌, length, get_or, drop, Option, Some, None}
 use Rattle.std.proofs.Common.{add-one, ap, ◌∙◌, drop-cons, lt-ltb, le-ltb}
-use Rattle.std.proofs.Math.Option.{Option, some, none}
 use Rattle.std.proofs.Math.Seq.{drop-length}
 use Rattle.kept.specs.CountedSet.{and_then}
 use Rattle.kept.specs.Tables.{Tables, node_count}
@@ -14,11 +13,11 @@ use Rattle.kept_laws.specs.FitsLaws.{entered_all_fits}
 use Rattle.kept_laws.specs.Wrote.{Wrote, wrote_true, wrote_false, Beside, beside_same}
 use Rattle.start.specs.Onward.{Onward, onward_first, onward_fits, onward_stray, onward_done, onward_more}
 
-all_none : (T : Tables) (e : Evaluation) → all_entered T e [] ≡ some e
+all_none : (T : Tables) (e : Evaluation) → all_entered T e [] ≡ Some e
 unfolding all_entered
 all_none T e = refl
 
-all_out : (T : Tables) (e : Evaluation) (m : ℕ) (ks : List ℕ) → node_count T ≤ m → all_entered T e (m ∷ ks) ≡ none
+all_out : (T : Tables) (e : Evaluation) (m : ℕ) (ks : List ℕ) → node_count T ≤ m → all_entered T e (m ∷ ks) ≡ None
 unfolding all_entered
 all_out T e m ks l = rw (le-ltb m (node_count T) l)
 
@@ -50,7 +49,7 @@ module _ (T : Tables) (ws list : List ℕ) where
         first : drop i list ≡ m ∷ drop (i + 1) list
         first = rw (at, add-one) (drop-cons list i 0 l)
 
-        stray : (after : List ℕ) → rest ≡ none → Beside T mid after → Whole false after
+        stray : (after : List ℕ) → rest ≡ None → Beside T mid after → Whole false after
         stray after p b = onward_stray T ws (all_entered T (of_words T ws) list) room mid rest w after p b
 
         -- it is no node
@@ -70,7 +69,7 @@ module _ (T : Tables) (ws list : List ℕ) where
           pub entering_more : ok ≡ true → Entering after (i + 1)
           entering_more e =
               let f = wrote_true T mid (entered T m (of_words T mid)) after ok q e in
-              let one : all_entered T (of_words T mid) (m ∷ []) ≡ some f.0 = all_in T (of_words T mid) m [] h ∙ ap (λ x. and_then x (λ d. all_entered T d [])) f.1 ∙ all_none T f.0 in
+              let one : all_entered T (of_words T mid) (m ∷ []) ≡ Some f.0 = all_in T (of_words T mid) m [] h ∙ ap (λ x. and_then x (λ d. all_entered T d [])) f.1 ∙ all_none T f.0 in
               onward_more T ws (all_entered T (of_words T ws) list) room mid rest w
               (entered T m (of_words T mid)) (λ d. all_entered T d (drop (i + 1) list)) f.0 after
               go_on f.1 (entered_all_fits T (of_words T mid) f.0 (m ∷ []) one (onward_fits T ws (all_entered T (of_words T ws) list) room mid rest w))

@@ -1,7 +1,6 @@
 -- The start of the walk where the candidate's words are written first: of an atom only whether it is missing, and its nodes, are left.
 -- Assumes nothing.
-use Rattle.std.specs.Prelude.{ℕ, ◌+◌, ◌*◌, ◌/◌, ◌%◌, ◌^◌, cond, List, [], ◌∷◌, ltb, set}
-use Rattle.std.proofs.Math.Option.{Option, some}
+use Rattle.std.specs.Prelude.{ℕ, ◌+◌, ◌*◌, ◌/◌, ◌%◌, ◌^◌, cond, List, [], ◌∷◌, ltb, set, Option, Some}
 use Rattle.formula.specs.Satisfaction.{Interpretation}
 use Rattle.theory.specs.declared.Counts.{Counts}
 use Rattle.kept.specs.CountedSet.{and_then, with_bit}
@@ -17,7 +16,7 @@ atom_moved T J a e = and_then (presence_turned T a (J a) e) (λ d. and_then (ato
 
 -- one after the other
 unfoldable pub all_moved : Tables → Interpretation → List ℕ → Evaluation → Option Evaluation
-all_moved T J [] e = some e
+all_moved T J [] e = Some e
 all_moved T J (a ∷ more) e = and_then (atom_moved T J a e) (all_moved T J more)
 
 -- a candidate's words in which these atoms are as J has them

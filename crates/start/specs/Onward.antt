@@ -1,8 +1,7 @@
 -- A call that enters nodes, while it runs: what is written so far, and what is left to do.
 -- Assumes nothing.
-use Rattle.std.specs.Prelude.{ℕ, ◌≤◌, ◌≡◌, refl, Bool, true, false, List, length}
+use Rattle.std.specs.Prelude.{ℕ, ◌≤◌, ◌≡◌, refl, Bool, true, false, List, length, Option, Some, None}
 use Rattle.std.proofs.Common.{ap, sym, ◌∙◌}
-use Rattle.std.proofs.Math.Option.{Option, some, none}
 use Rattle.kept.specs.CountedSet.{and_then}
 use Rattle.kept.specs.Tables.{Tables}
 use Rattle.kept.specs.Evaluation.{Evaluation}
@@ -32,10 +31,10 @@ module _ (T : Tables) (ws : List ℕ) (o : Option Evaluation) (room : used T ≤
     onward_beside = rw w.held (beside_written T ws (of_words T mid) room onward_fits)
 
     -- a 17: after is what a call left of mid
-    pub onward_stray : (after : List ℕ) → rest ≡ none → Beside T mid after → Wrote T ws o false after
+    pub onward_stray : (after : List ℕ) → rest ≡ None → Beside T mid after → Wrote T ws o false after
     onward_stray after p b = rw (← w.left, p) (refl, beside_then T ws mid after onward_beside b)
 
-    pub onward_done : rest ≡ some (of_words T mid) → Wrote T ws o true mid
+    pub onward_done : rest ≡ Some (of_words T mid) → Wrote T ws o true mid
     onward_done p = rw (← w.left, p) (refl, w.held)
 
     -- a call does all that is left
@@ -43,13 +42,13 @@ module _ (T : Tables) (ws : List ℕ) (o : Option Evaluation) (room : used T ≤
     onward_then r after h = go rest refl h
       where
         go : (x : Option Evaluation) → rest ≡ x → Wrote T mid x r after → Wrote T ws o r after
-        go none p h = rw h.0 (onward_stray after p h.1)
-        go (some d) p h =
+        go None p h = rw h.0 (onward_stray after p h.1)
+        go (Some d) p h =
             rw (← w.left, p) (h.0, h.1 ∙ ap (λ x. written T x d) w.held ∙ written_again T ws room (of_words T mid) onward_fits d)
 
     -- a part of what is left was written
     pub onward_more : (p : Option Evaluation) (f : Evaluation → Option Evaluation) (d : Evaluation) (after : List ℕ)
-        → rest ≡ and_then p f → p ≡ some d → Fits T d → after ≡ written T mid d → Onward T ws o after (f (of_words T after))
+        → rest ≡ and_then p f → p ≡ Some d → Fits T d → after ≡ written T mid d → Onward T ws o after (f (of_words T after))
     onward_more p f d after e h fits a =
         record {
           held = a ∙ ap (λ x. written T x d) w.held ∙ written_again T ws room (of_words T mid) onward_fits d ∙ ap (written T ws) (sym holds);

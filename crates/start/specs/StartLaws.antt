@@ -2,13 +2,12 @@
 -- Assumes nothing.
 use Prim.Native.Nat.{ℕ, zero, suc, ◌<◌, ◌≤◌, ◌+◌, ◌-◌, ◌*◌, ◌/◌, ◌%◌}
 use native.Mathlib.Omega.{arith}
-use Rattle.std.specs.Prelude.{◌≡◌, Bool, length, get_or}
+use Rattle.std.specs.Prelude.{◌≡◌, Bool, length, get_or, Option, Some, None}
 use Rattle.std.proofs.Math.Path.{refl, ap, sym}
 use Rattle.std.proofs.Common.{ap₂, ◌∙◌}
 use Rattle.std.proofs.Math.Logic.{⊎_elim}
 use Rattle.std.proofs.Math.Bool.{true, false}
 use mathlib.Core.List.{List, [], ◌∷◌, ◌++◌, append-nil}
-use Rattle.std.proofs.Math.Option.{Option, some, none}
 use Rattle.base.specs.Tests.{below_or}
 use Rattle.base.specs.Places.{places, places-yes, places_no, places_agree, places-split, places_none}
 use Rattle.formula.specs.Satisfaction.{Interpretation}
@@ -49,21 +48,21 @@ module _ (T : Tables) (J : Interpretation) where
     where
       go : (o : Option Evaluation) → ((d : Evaluation) → all_turned T J (xs ++ ys) d ≡ and_then (all_turned T J xs d) (all_turned T J ys))
           → and_then o (all_turned T J (xs ++ ys)) ≡ and_then (and_then o (all_turned T J xs)) (all_turned T J ys)
-      go none ih = refl
-      go (some d) ih = ih d
+      go None ih = refl
+      go (Some d) ih = ih d
 
-  turned_fits : (xs : List ℕ) (e d : Evaluation) → all_turned T J xs e ≡ some d → Fits T e → Fits T d
+  turned_fits : (xs : List ℕ) (e d : Evaluation) → all_turned T J xs e ≡ Some d → Fits T e → Fits T d
   unfolding all_turned
   turned_fits [] e d h f = rw (some_is e d h) at f
   turned_fits (a ∷ xs) e d h f = let p = then_some (atom_turned T J a e) (all_turned T J xs) d h in turned_fits xs p.0 d p.2 (atom_fits T J a e p.0 p.1 f)
 
   -- the atoms behind them stay
-  turned_behind : (p : ℕ → Bool) → Within (atom_count T) p → (n s : ℕ) (e d : Evaluation) → Fits T e → all_turned T J (places p s n) e ≡ some d → (j : ℕ) → s + n ≤ j → present d j ≡ present e j
+  turned_behind : (p : ℕ → Bool) → Within (atom_count T) p → (n s : ℕ) (e d : Evaluation) → Fits T e → all_turned T J (places p s n) e ≡ Some d → (j : ℕ) → s + n ≤ j → present d j ≡ present e j
   unfolding all_turned places
   turned_behind p w zero s e d f h j l = ap (λ x. present x j) (sym (some_is e d h))
   turned_behind p w (suc n) s e d f h j l = go (p s) refl (turned_behind p w n (s + 1))
     where
-      go : (b : Bool) → p s ≡ b → ((c b : Evaluation) → Fits T c → all_turned T J (places p (s + 1) n) c ≡ some b → (j : ℕ) → s + 1 + n ≤ j → present b j ≡ present c j) → present d j ≡ present e j
+      go : (b : Bool) → p s ≡ b → ((c b : Evaluation) → Fits T c → all_turned T J (places p (s + 1) n) c ≡ Some b → (j : ℕ) → s + 1 + n ≤ j → present b j ≡ present c j) → present d j ≡ present e j
       go true q ih =
           let t = then_some (atom_turned T J s e) (all_turned T J (places p (s + 1) n)) d (ap (λ xs. all_turned T J xs e) (sym (places-yes p s n q)) ∙ h) in
           ih t.0 d (atom_fits T J s e t.0 t.1 f) t.2 j (omega arith) ∙ turned_present T J s j e t.0 t.1 f (w s q) (λ z. omega arith)
@@ -173,10 +172,10 @@ module _ (T : Tables) (new : List ℕ) (ws : List ℕ) where
 
     -- up to pair `first` all words are the same
     pub starting_first : (first : ℕ) → ((i : ℕ) → i < 2 * first → i < words32 (atom_count T) → Same (candidate_start T) ws new i) → Starting ws first
-    starting_first first alike = starting_skip ws 0 first (omega arith) none (λ a b c. same_place a (alike (a / 32) (omega arith)))
+    starting_first first alike = starting_skip ws 0 first (omega arith) None (λ a b c. same_place a (alike (a / 32) (omega arith)))
       where
-        none : Starting ws 0
-        none =
+        None : Starting ws 0
+        None =
             record {
               onward = onward_first T ws whole room (all_turned T J (later 0) e)
                   (ap (λ xs. all_turned T J xs e) all_later ∙ sym (start_changed T J e (fits_of T ws room)));
@@ -195,9 +194,9 @@ module _ (T : Tables) (new : List ℕ) (ws : List ℕ) where
       -- from pair `end` on all words are the same
       pub starting_done : (end : ℕ) → end ≤ p → ((i : ℕ) → 2 * end ≤ i → i < words32 (atom_count T) → Same (candidate_start T) ws new i) → Wrote T ws whole true mid
       starting_done end l alike =
-          let none : later p ≡ [] = none_later p (λ a b. same_place a (alike (a / 32) (omega arith))) in
+          let None : later p ≡ [] = none_later p (λ a b. same_place a (alike (a / 32) (omega arith))) in
           onward_done T ws whole room mid (all_turned T J (later p) (of_words T mid)) s.onward
-          (ap (λ xs. all_turned T J xs (of_words T mid)) none ∙ turned_none T J (of_words T mid))
+          (ap (λ xs. all_turned T J xs (of_words T mid)) None ∙ turned_none T J (of_words T mid))
 
       middle : used T ≤ length mid
       middle = onward-room T ws whole room mid (all_turned T J (later p) (of_words T mid)) s.onward

@@ -1,9 +1,8 @@
 -- The atoms of one word moved, lowest first.
 -- Assumes nothing.
-use Rattle.std.specs.Prelude.{ℕ, ◌<◌, ◌≤◌, ◌+◌, ◌-◌, ◌*◌, ◌/◌, ◌%◌, ◌^◌, ◌≡◌, Bool, true, false, List, [], ◌∷◌, map, eqb, length, get_or}
+use Rattle.std.specs.Prelude.{ℕ, ◌<◌, ◌≤◌, ◌+◌, ◌-◌, ◌*◌, ◌/◌, ◌%◌, ◌^◌, ◌≡◌, Bool, true, false, List, [], ◌∷◌, map, eqb, length, get_or, Option, Some}
 use Rattle.std.proofs.Math.Path.{refl}
 use Rattle.std.proofs.Common.{ap, ◌∙◌}
-use Rattle.std.proofs.Math.Option.{Option, some}
 use Rattle.std.specs.Int.Bits.{bit_and}
 use Rattle.base.specs.Places.{places}
 use Rattle.formula.specs.Satisfaction.{Interpretation}
@@ -29,11 +28,11 @@ unfolding bit
 place_read new t b e = e
 
 module _ (T : Tables) (J : Interpretation) where
-  pub turned_none : (e : Evaluation) → all_turned T J [] e ≡ some e
+  pub turned_none : (e : Evaluation) → all_turned T J [] e ≡ Some e
   unfolding all_turned
   turned_none e = refl
 
-  moved_none : (e : Evaluation) → all_moved T J [] e ≡ some e
+  moved_none : (e : Evaluation) → all_moved T J [] e ≡ Some e
   unfolding all_moved
   moved_none e = refl
 

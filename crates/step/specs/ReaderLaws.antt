@@ -1,10 +1,9 @@
 -- What each branch on a reader gives: the reader was told, or it is a 17.
 -- Assumes nothing.
-use Rattle.std.specs.Prelude.{ℕ, ◌<◌, ◌≤◌, ◌≡◌, refl, Bool, false, ltb, List}
+use Rattle.std.specs.Prelude.{ℕ, ◌<◌, ◌≤◌, ◌≡◌, refl, Bool, false, ltb, List, None}
 use Rattle.std.proofs.Common.{zero-add, arith, ap, ◌∙◌}
 use Rattle.std.proofs.Math.Path.{sym}
 use Rattle.std.proofs.Math.Bool.{and-false}
-use Rattle.std.proofs.Math.Option.{none}
 use borrow.Author.Tests.{lt-ltb, le-ltb}
 use Rattle.readers.specs.declared.Reading.{Reading}
 use Rattle.readers.specs.Reader.{packed, reading_of, packed_read}
@@ -30,7 +29,7 @@ module _ (T : Tables) (ws : List ℕ) (k : ℕ) (t : Bool) (x r : Reading) (is :
   abbrev e : Evaluation
   e = of_words T ws
 
-  refused : reader_updated T k t e x ≡ none → Wrote T ws (reader_updated T k t e x) false ws
+  refused : reader_updated T k t e x ≡ None → Wrote T ws (reader_updated T k t e x) false ws
   refused h = wrote_none T ws (reader_updated T k t e x) ws h (beside_same T ws)
 
   -- a node that is not above k, or no node

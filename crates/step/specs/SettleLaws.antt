@@ -1,11 +1,10 @@
 -- A node gets its truth: it is so already, its readers are out of order, or they are told.
 -- Assumes nothing.
-use Rattle.std.specs.Prelude.{ℕ, ◌<◌, ◌≤◌, ◌+◌, ◌≡◌, refl, Bool, not, List, length}
+use Rattle.std.specs.Prelude.{ℕ, ◌<◌, ◌≤◌, ◌+◌, ◌≡◌, refl, Bool, not, List, length, Some, None}
 use Rattle.std.proofs.Math.Path.{ap}
 use Rattle.std.proofs.Common.{sym, ◌∙◌}
 use Rattle.std.proofs.Math.Bool.{true, false}
 use Rattle.std.specs.Bool.{beq}
-use Rattle.std.proofs.Math.Option.{some, none}
 use Rattle.std.proofs.Math.ListN.{set}
 use Rattle.words.specs.Changed.{unlike}
 use Rattle.readers.specs.Laid as laid
@@ -33,11 +32,11 @@ unlike-not false false = refl
 -- ---- list s of the reader table
 
 module _ (T : Tables) (s : ℕ) (b : Bool) (is : b ≡ in_order T.readers (reader_words T.counts) s) where
-  list_there : b ≡ true → list_at T s ≡ some (laid.list_at T.readers s)
+  list_there : b ≡ true → list_at T s ≡ Some (laid.list_at T.readers s)
   unfolding list_at between in_order laid.list_at
   list_there p = rw (sym is ∙ p)
 
-  list_not : b ≡ false → list_at T s ≡ none
+  list_not : b ≡ false → list_at T s ≡ None
   unfolding list_at between in_order
   list_not p = rw (sym is ∙ p)
 

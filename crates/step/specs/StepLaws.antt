@@ -1,9 +1,8 @@
 -- What each branch of a step gives.
 -- Assumes nothing.
-use Rattle.std.specs.Prelude.{ℕ, ◌<◌, ◌≤◌, ◌≡◌, refl, Bool, true, false, List, length, get_or}
+use Rattle.std.specs.Prelude.{ℕ, ◌<◌, ◌≤◌, ◌≡◌, refl, Bool, true, false, List, length, get_or, Some, Option, None}
 use Rattle.std.proofs.Common.{arith, ◌∙◌, lt-ltb}
 use Rattle.std.proofs.Math.Path.{ap, sym}
-use Rattle.std.proofs.Math.Option.{some}
 use Rattle.theory.specs.Node.{node_at}
 use Rattle.kept.specs.Tables.{Tables, node_count}
 use Rattle.kept.specs.Seen.{node_seen}
@@ -13,8 +12,6 @@ use Rattle.kept.specs.Layout.{of_words, used}
 use Rattle.kept_laws.specs.Exits.{step_idle, step_astray, step_unseen}
 use Rattle.kept_laws.specs.Written.{get_first}
 use Rattle.kept_laws.specs.Wrote.{beside_same}
-use Rattle.node_truth.specs.declared.Seen.{Seen}
-use Rattle.node_truth.specs.declared.Seen.TheVariants.{True, False, Stray}
 use Rattle.node_truth.specs.InWords.{seen_of, true_in, present_in}
 use Rattle.node_truth.specs.InWordsLaws.{seen_in}
 use Rattle.step.specs.declared.Taking.{Taking}
@@ -34,25 +31,25 @@ module _ (T : Tables) (ws : List ℕ) (k : ℕ) (is : k ≡ get_or ws 5 0) where
   pub step_lost : node_count T < k → Steps T ws (step T e) (Fault 0) ws
   step_lost h = rw (step_astray T e (omega (arith, first))) (refl, beside_same T ws)
 
-  module _ (long : used T ≤ length ws) (l : k < node_count T) (s : Seen)
+  module _ (long : used T ≤ length ws) (l : k < node_count T) (s : Option Bool)
       (told : seen_of s ≡ node_seen T.counts T.operands (present_in T.counts ws) (true_in ws) k (node_at T.nodes k)) where
-    known : (r : Seen) → s ≡ r → seen T e k ≡ seen_of r
+    known : (r : Option Bool) → s ≡ r → seen T e k ≡ seen_of r
     unfolding seen
     known r p = sym (seen_in T ws long k l) ∙ sym told ∙ ap seen_of p
 
-    pub step_stray : s ≡ Stray → Steps T ws (step T e) (Fault k) ws
-    step_stray p = rw (step_unseen T e k first l (known Stray p)) (refl, beside_same T ws)
+    pub step_stray : s ≡ None → Steps T ws (step T e) (Fault k) ws
+    step_stray p = rw (step_unseen T e k first l (known None p)) (refl, beside_same T ws)
 
-    taken : (t : Bool) → seen T e k ≡ some t → step T e ≡ taken_from T k t e
+    taken : (t : Bool) → seen T e k ≡ Some t → step T e ≡ taken_from T k t e
     unfolding step step_at taken_from
     taken t h = ap (step_at T e) first ∙ rw (lt-ltb k (node_count T) l, h)
 
     -- t is the truth that was seen
-    pub step_taken : (s ≡ Stray → ⊥) → (t : Bool) → ((x : Bool) → seen_of s ≡ some x → t ≡ x)
+    pub step_taken : (s ≡ None → ⊥) → (t : Bool) → ((x : Bool) → seen_of s ≡ Some x → t ≡ x)
         → (r : Taking) (after : List ℕ) → Steps T ws (taken_from T k t e) r after → Steps T ws (step T e) r after
     step_taken ne t f r after h = rw (taken t (go s refl)) h
       where
-        go : (x : Seen) → s ≡ x → seen T e k ≡ some t
-        go True p = known True p ∙ ap some (sym (f true (ap seen_of p)))
-        go False p = known False p ∙ ap some (sym (f false (ap seen_of p)))
-        go Stray p = absurd (ne p)
+        go : (x : Option Bool) → s ≡ x → seen T e k ≡ Some t
+        go (Some true) p = known (Some true) p ∙ ap Some (sym (f true (ap seen_of p)))
+        go (Some false) p = known (Some false) p ∙ ap Some (sym (f false (ap seen_of p)))
+        go None p = absurd (ne p)

@@ -1,7 +1,6 @@
 -- What a call of `step` is lent, and what it answers and leaves.
 -- Assumes nothing.
-use Rattle.std.specs.Prelude.{ℕ, ◌*◌, ◌≤◌, ◌≡◌, Bool, cond, List, set}
-use Rattle.std.proofs.Math.Option.{Option, some}
+use Rattle.std.specs.Prelude.{ℕ, ◌*◌, ◌≤◌, ◌≡◌, Bool, cond, List, set, Option, Some}
 use Rattle.theory.specs.Limits.{Limited}
 use Rattle.theory.specs.declared.Counts.{Counts}
 use Rattle.words.specs.Changed.{unlike}
@@ -30,11 +29,11 @@ pub record Lent (t : Counts) (made nodes operands producers readers kept : ℕ) 
 
 -- `settled` of kept, without the node's number
 unfoldable pub settled_to : Tables → ℕ → Bool → Evaluation → Option Evaluation
-settled_to T k t e = cond (unlike (truth_at e k) t) (and_then (readers_at T k) (readers_updated T k t (with_truths e (set e.truths k (truth_word t))))) (some e)
+settled_to T k t e = cond (unlike (truth_at e k) t) (and_then (readers_at T k) (readers_updated T k t (with_truths e (set e.truths k (truth_word t))))) (Some e)
 
 -- node k, the first of the worklist, taken off it, and become t
 unfoldable pub taken_from : Tables → ℕ → Bool → Evaluation → Stepped
-taken_from T k t e = settled_from T k e (some t) (without_first (node_count T) e.worklist)
+taken_from T k t e = settled_from T k e (Some t) (without_first (node_count T) e.worklist)
 
 abbrev pub Steps : Tables → List ℕ → Stepped → Taking → List ℕ → Type 0
 Steps T ws idle r after = (r ≡ Idle) × (after ≡ ws)

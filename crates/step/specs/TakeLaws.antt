@@ -1,9 +1,8 @@
 -- A node leaves the worklist and gets its truth.
 -- Assumes nothing.
-use Rattle.std.specs.Prelude.{ℕ, ◌≤◌, Bool, true, false, cond, List, length, set}
+use Rattle.std.specs.Prelude.{ℕ, ◌≤◌, Bool, true, false, cond, List, length, set, Option, Some, None}
 use Rattle.std.proofs.Common.{arith, ◌∙◌}
 use Rattle.std.proofs.Math.Path.{◌≡◌, refl, ap, sym}
-use Rattle.std.proofs.Math.Option.{Option, some, none}
 use Rattle.words.specs.Changed.{unlike}
 use Rattle.kept.specs.CountedSet.{and_then}
 use Rattle.kept.specs.Worklist.{Worklist, without_first}
@@ -28,24 +27,24 @@ module _ (T : Tables) (k : ℕ) where
       told : Option Evaluation
       told = and_then (readers_at T k) (readers_updated T k t (with_truths e (set e.truths k (truth_word t))))
 
-      go : (b : Bool) → cond b (took_at k told) (took k e) ≡ took_at k (cond b told (some e))
+      go : (b : Bool) → cond b (took_at k told) (took k e) ≡ took_at k (cond b told (Some e))
       go true = refl
       go false = refl
 
   -- what leaving the worklist gives
-  off : (e d : Evaluation) → dequeued T e ≡ some d → (w : Worklist) × (without_first (node_count T) e.worklist ≡ some w) × (d ≡ with_worklist e w)
+  off : (e d : Evaluation) → dequeued T e ≡ Some d → (w : Worklist) × (without_first (node_count T) e.worklist ≡ Some w) × (d ≡ with_worklist e w)
   unfolding dequeued
   off e d h =
-      let p = then_some (without_first (node_count T) e.worklist) (λ w. some (with_worklist e w)) d h in
+      let p = then_some (without_first (node_count T) e.worklist) (λ w. Some (with_worklist e w)) d h in
       (p.0, p.1, sym (some_is (with_worklist e p.0) d p.2))
 
-  off_not : (e : Evaluation) → dequeued T e ≡ none → without_first (node_count T) e.worklist ≡ none
+  off_not : (e : Evaluation) → dequeued T e ≡ None → without_first (node_count T) e.worklist ≡ None
   unfolding dequeued
   off_not e h = go (without_first (node_count T) e.worklist) h
     where
-      go : (o : Option Worklist) → and_then o (λ w. some (with_worklist e w)) ≡ none → o ≡ none
-      go none h = refl
-      go (some w) h = let z : ◌≡◌ {A = ℕ} 0 1 = cc in absurd (omega arith)
+      go : (o : Option Worklist) → and_then o (λ w. Some (with_worklist e w)) ≡ None → o ≡ None
+      go None h = refl
+      go (Some w) h = let z : ◌≡◌ {A = ℕ} 0 1 = cc in absurd (omega arith)
 
   module _ (ws : List ℕ) (long : used T ≤ length ws) (t : Bool) (ok : Bool) (mid : List ℕ) (w : Wrote T ws (dequeued T (of_words T ws)) ok mid) where
     abbrev e : Evaluation

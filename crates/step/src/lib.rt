@@ -2,7 +2,6 @@
 #![tactic(auto)]
 
 ghost use Rattle.std.specs.Prelude.{◌≡◌, Bool, ◌+◌, ◌*◌, ◌<◌, ◌≤◌, length, get_or, set};
-ghost use Rattle.std.proofs.Math.Option.{some};
 ghost use Rattle.theory.specs.Limits.{Limited};
 ghost use Rattle.readers.specs.Reader.{reading_of};
 ghost use Rattle.readers.specs.ReaderTable.{reader_words};
@@ -148,11 +147,11 @@ fn take(
 }
 
 // The truth that was seen; of a stray node, false.
-fn is_true(seen: Seen) -> bool
-    ensures { (x : Bool) → seen_of seen ≡ some x → result ≡ x }
+fn is_true(seen: Option<bool>) -> bool
+    ensures { (x : Bool) → seen_of seen ≡ Some x → result ≡ x }
 {
     match seen {
-        Seen::True => true,
+        Some(true) => true,
         _ => false,
     }
 }
@@ -180,7 +179,7 @@ pub fn step(
     // where its readers are listed, read before its truth: the truth takes longer to see
     let from = words::word64(readers, k);
     let seen = node_truth::node_truth(counts, nodes, operands, kept, k);
-    if let Seen::Stray = seen {
+    if let None = seen {
         return Taking::Fault(k);
     }
     let holds = is_true(seen);

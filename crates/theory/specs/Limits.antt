@@ -1,17 +1,16 @@
 -- The limits of a theory, and refusal 3 by its counts: 0 atoms, 1 nodes, 2 operand entries, 3 roots.
 -- Assumes nothing.
-use Rattle.std.specs.Prelude.{ℕ, ◌*◌, ◌≤◌, cond, ltb}
+use Rattle.std.specs.Prelude.{ℕ, ◌*◌, ◌≤◌, cond, ltb, Err}
 use Rattle.theory.specs.declared.Counts.{Counts}
-use Rattle.theory.specs.declared.Admission.{Admission}
-use Rattle.theory.specs.declared.Admission.TheVariants.{Admitted, Refused}
 use Rattle.theory.specs.declared.Refusal.TheVariants.{PastLimit}
+use Rattle.theory.specs.Admission.{Admission, admitted}
 
 unfoldable pub limits_of : Counts → Admission
 limits_of c =
-    cond (ltb 65536 c.atoms) (Refused (PastLimit 0))
-    (cond (ltb 262144 c.nodes) (Refused (PastLimit 1))
-    (cond (ltb 1048576 c.operands) (Refused (PastLimit 2))
-    (cond (ltb 262144 c.roots) (Refused (PastLimit 3)) Admitted)))
+    cond (ltb 65536 c.atoms) (Err (PastLimit 0))
+    (cond (ltb 262144 c.nodes) (Err (PastLimit 1))
+    (cond (ltb 1048576 c.operands) (Err (PastLimit 2))
+    (cond (ltb 262144 c.roots) (Err (PastLimit 3)) admitted)))
 
 -- no limit is passed
 pub record Limited (c : Counts) : Type 0 where

@@ -2,30 +2,28 @@
 -- Assumes nothing.
 use Prim.Native.Nat.{ℕ, zero, suc, ◌+◌, ◌≤◌}
 use Rattle.std.proofs.Common.{arith, sym, subst}
-use Rattle.std.specs.Prelude.{◌≡◌, Bool, true, false, cond, ◌&&◌, List, eqb, get_or}
+use Rattle.std.specs.Prelude.{◌≡◌, Bool, true, false, cond, ◌&&◌, List, eqb, get_or, Ok, Err}
 use Rattle.std.proofs.Math.Dec.{leb, ltb}
 use Rattle.theory.specs.Refusal.{told, number_of}
 use Rattle.theory.specs.Refusals.{not_both}
 use Rattle.theory.specs.Limits.{limits_of}
 use Rattle.theory.specs.Node.{node_at, span}
-use Rattle.theory.specs.Admission.{all_below, span_start, group_admission, node_admission, root_admission, or_else, first_refusal, nodes_admission, roots_admission, admission}
+use Rattle.theory.specs.Admission.{all_below, span_start, group_admission, node_admission, root_admission, or_else, first_refusal, nodes_admission, roots_admission, admission, Admission, admitted}
 use Rattle.theory.specs.declared.Counts.{Counts}
 use Rattle.theory.specs.declared.Node.{Node}
 use Rattle.theory.specs.declared.Node.TheVariants.{Atom, False, Implies, And, Or, Unknown}
 use Rattle.theory.specs.declared.Refusal.{Refusal}
 use Rattle.theory.specs.declared.Refusal.TheVariants.{BadKind, PastLimit, BadAtom, BadOperand, NoOperands, BadRoot}
-use Rattle.theory.specs.declared.Admission.{Admission}
-use Rattle.theory.specs.declared.Admission.TheVariants.{Admitted, Refused}
 
 module _ (P : Refusal → Type 0) where
   -- none but those of P
   abbrev pub Only : Admission → Type 0
-  Only a = (r : Refusal) → a ≡ Refused r → P r
+  Only a = (r : Refusal) → a ≡ Err r → P r
 
-  pub only_admitted : Only Admitted
+  pub only_admitted : Only admitted
   only_admitted r e = absurd (not_both r (sym e))
 
-  pub only_refused : (x : Refusal) → P x → Only (Refused x)
+  pub only_refused : (x : Refusal) → P x → Only (Err x)
   only_refused x p r e = let z : x ≡ r = cc in subst P z p
 
   pub only_either : (b : Bool) (x y : Admission) → Only x → Only y → Only (cond b x y)
@@ -33,8 +31,8 @@ module _ (P : Refusal → Type 0) where
   only_either false x y p q = q
 
   pub only-or_else : (a b : Admission) → Only a → Only b → Only (or_else a b)
-  only-or_else Admitted b p q = q
-  only-or_else (Refused r) b p q = p
+  only-or_else (Ok u) b p q = q
+  only-or_else (Err r) b p q = p
 
   pub only_first : (f : ℕ → Admission) → ((k : ℕ) → Only (f k)) → (i n : ℕ) → Only (first_refusal f i n)
   unfolding first_refusal
@@ -52,11 +50,11 @@ module _ (n : ℕ) where
   Low r = number_of r ≤ n
 
   -- a test: x, or else what comes after it
-  pub up_to_test : (b : Bool) (x : Refusal) (rest : Admission) → number_of x ≤ n → UpTo n rest → UpTo n (cond b (Refused x) rest)
-  up_to_test b x rest l h = only_either Low b (Refused x) rest (only_refused Low x l) h
+  pub up_to_test : (b : Bool) (x : Refusal) (rest : Admission) → number_of x ≤ n → UpTo n rest → UpTo n (cond b (Err x) rest)
+  up_to_test b x rest l h = only_either Low b (Err x) rest (only_refused Low x l) h
 
-  pub up_to_passed : (b : Bool) (x : Refusal) → number_of x ≤ n → UpTo n (cond b Admitted (Refused x))
-  up_to_passed b x l = only_either Low b Admitted (Refused x) (only_admitted Low) (only_refused Low x l)
+  pub up_to_passed : (b : Bool) (x : Refusal) → number_of x ≤ n → UpTo n (cond b admitted (Err x))
+  up_to_passed b x l = only_either Low b admitted (Err x) (only_admitted Low) (only_refused Low x l)
 
   pub limits_up_to : (c : Counts) → 3 ≤ n → UpTo n (limits_of c)
   unfolding limits_of told
@@ -64,7 +62,7 @@ module _ (n : ℕ) where
       up_to_test (ltb 65536 c.atoms) (PastLimit 0) _ l
       (up_to_test (ltb 262144 c.nodes) (PastLimit 1) _ l
       (up_to_test (ltb 1048576 c.operands) (PastLimit 2) _ l
-      (up_to_test (ltb 262144 c.roots) (PastLimit 3) Admitted l (only_admitted Low))))
+      (up_to_test (ltb 262144 c.roots) (PastLimit 3) admitted l (only_admitted Low))))
 
   module _ (l : 7 ≤ n) where
     group_up_to : (size : ℕ) (operands : List ℕ) (start k s c : ℕ) → UpTo n (group_admission size operands start k s c)

@@ -3,19 +3,17 @@
 use Prim.Native.Nat.{ℕ, zero, suc, ◌+◌, ◌-◌, ◌<◌, ◌≤◌}
 use Rattle.std.proofs.Common.{add-one, ap₂, ◌∙◌, ⊎_elim, eqb-true, leb-true}
 use native.Mathlib.Omega.{arith}
-use Rattle.std.specs.Prelude.{◌≡◌, refl, Bool, true, false, cond, ◌&&◌, List, eqb, leb}
+use Rattle.std.specs.Prelude.{◌≡◌, refl, Bool, true, false, cond, ◌&&◌, List, eqb, leb, Ok, Err}
 use Rattle.std.proofs.Math.Path.{sym}
 use Rattle.std.proofs.lemmas.Bool.{eqb-false}
 use Rattle.base.specs.Tests.{equal_or}
 use Rattle.theory.specs.Node.{node_at, span}
-use Rattle.theory.specs.Admission.{all_below, group_admission, node_admission, or_else, first_refusal, span_end, span_start}
+use Rattle.theory.specs.Admission.{all_below, group_admission, node_admission, or_else, first_refusal, span_end, span_start, Admission, admitted}
 use Rattle.theory.specs.declared.Counts.{Counts}
 use Rattle.theory.specs.declared.Node.{Node}
 use Rattle.theory.specs.declared.Node.TheVariants.{Atom, False, Implies, And, Or, Unknown}
 use Rattle.theory.specs.declared.Refusal.{Refusal}
 use Rattle.theory.specs.declared.Refusal.TheVariants.{NoOperands, BadOperand}
-use Rattle.theory.specs.declared.Admission.{Admission}
-use Rattle.theory.specs.declared.Admission.TheVariants.{Admitted, Refused}
 
 -- a loop from i up to n: `whole` is what is left at each turn
 module _ (f : ℕ → Admission) (i n : ℕ) (whole : Admission) (rest : whole ≡ first_refusal f i (n - i)) where
@@ -25,26 +23,26 @@ module _ (f : ℕ → Admission) (i n : ℕ) (whole : Admission) (rest : whole �
       let left : n - i ≡ suc (n - (i + 1)) = omega arith in
       rest ∙ rw left
 
-  pub first_stop : (r : Refusal) → i < n → f i ≡ Refused r → Refused r ≡ whole
+  pub first_stop : (r : Refusal) → i < n → f i ≡ Err r → Err r ≡ whole
   first_stop r h e = sym (first_turn h ∙ rw e)
 
-  pub first_go : i < n → f i ≡ Admitted → whole ≡ first_refusal f (i + 1) (n - (i + 1))
+  pub first_go : i < n → f i ≡ admitted → whole ≡ first_refusal f (i + 1) (n - (i + 1))
   first_go h e = first_turn h ∙ rw e
 
-  pub first_done : n ≤ i → Admitted ≡ whole
+  pub first_done : n ≤ i → admitted ≡ whole
   unfolding first_refusal
   first_done h = let left : n - i ≡ 0 = omega arith in sym (rest ∙ rw left)
 
-pub or_else_left : (a b : Admission) → or_else a b ≡ Admitted → a ≡ Admitted
-or_else_left Admitted b e = refl
-or_else_left (Refused r) b e = e
+pub or_else_left : (a b : Admission) → or_else a b ≡ admitted → a ≡ admitted
+or_else_left (Ok u) b e = refl
+or_else_left (Err r) b e = e
 
-pub or-else-right : (a b : Admission) → or_else a b ≡ Admitted → b ≡ Admitted
-or-else-right Admitted b e = e
-or-else-right (Refused r) b e = cc
+pub or-else-right : (a b : Admission) → or_else a b ≡ admitted → b ≡ admitted
+or-else-right (Ok u) b e = e
+or-else-right (Err r) b e = cc
 
 -- no refusal: each is admitted; and the other way round
-pub none_refused : (f : ℕ → Admission) (i n : ℕ) → first_refusal f i n ≡ Admitted → (k : ℕ) → i ≤ k → k < i + n → f k ≡ Admitted
+pub none_refused : (f : ℕ → Admission) (i n : ℕ) → first_refusal f i n ≡ admitted → (k : ℕ) → i ≤ k → k < i + n → f k ≡ admitted
 unfolding first_refusal
 none_refused f i zero e k a b = absurd (omega arith)
 none_refused f i (suc n) e k a b =
@@ -52,7 +50,7 @@ none_refused f i (suc n) e k a b =
     (λ ne. none_refused f (i + 1) n (or-else-right (f i) (first_refusal f (i + 1) n) e) k (omega arith) (omega arith))
     (equal_or k i)
 
-pub all_admitted : (f : ℕ → Admission) (i n : ℕ) → ((k : ℕ) → i ≤ k → k < i + n → f k ≡ Admitted) → first_refusal f i n ≡ Admitted
+pub all_admitted : (f : ℕ → Admission) (i n : ℕ) → ((k : ℕ) → i ≤ k → k < i + n → f k ≡ admitted) → first_refusal f i n ≡ admitted
 unfolding first_refusal
 all_admitted f i zero h = refl
 all_admitted f i (suc n) h =
@@ -77,17 +75,17 @@ pub node_seen_lem : (t : Counts) (nodes operands : List ℕ) (k start : ℕ) (no
     → r ≡ node_admission t operands start k node → node_admission t operands (span_start nodes k) k (node_at nodes k) ≡ r
 node_seen_lem t nodes operands k start node r p q e = rw (← p, ← q) (sym e)
 
-pub not_both : (r : Refusal) → Refused r ≡ Admitted → ⊥
+pub not_both : (r : Refusal) → Err r ≡ admitted → ⊥
 not_both r e = let z : ◌≡◌ {A = ℕ} 0 1 = cc in omega arith
 
 -- the span of an admitted group begins at start, is not empty, ends within the table, and has nodes below k alone
-pub group_admitted : (size : ℕ) (operands : List ℕ) (start k s c : ℕ) → group_admission size operands start k s c ≡ Admitted
+pub group_admitted : (size : ℕ) (operands : List ℕ) (start k s c : ℕ) → group_admission size operands start k s c ≡ admitted
     → (s ≡ start) × (0 < c) × (s + c ≤ size) × (all_below k (span operands s c) ≡ true)
 unfolding group_admission
 group_admitted size operands start k s c e = go (eqb c 0) refl (eqb s start) refl (leb (s + c) size) refl (all_below k (span operands s c)) refl e
   where
     go : (z : Bool) → eqb c 0 ≡ z → (b : Bool) → eqb s start ≡ b → (w : Bool) → leb (s + c) size ≡ w → (l : Bool) → all_below k (span operands s c) ≡ l
-        → cond z (Refused (NoOperands k)) (cond (b && w && l) Admitted (Refused (BadOperand k))) ≡ Admitted
+        → cond z (Err (NoOperands k)) (cond (b && w && l) admitted (Err (BadOperand k))) ≡ admitted
         → (s ≡ start) × (0 < c) × (s + c ≤ size) × (all_below k (span operands s c) ≡ true)
     go true ez b eb w ew l el q = absurd (not_both _ q)
     go false ez true eb true ew true el q = (eqb-true s start eb, omega (arith, eqb-false c 0 ez), leb-true (s + c) size ew, el)
@@ -96,7 +94,7 @@ group_admitted size operands start k s c e = go (eqb c 0) refl (eqb s start) ref
     go false ez false eb w ew l el q = absurd (not_both _ q)
 
 -- an admitted node's span ends within the table
-pub end_within : (t : Counts) (operands : List ℕ) (start k : ℕ) (node : Node) → node_admission t operands start k node ≡ Admitted → start ≤ t.operands → span_end node start ≤ t.operands
+pub end_within : (t : Counts) (operands : List ℕ) (start k : ℕ) (node : Node) → node_admission t operands start k node ≡ admitted → start ≤ t.operands → span_end node start ≤ t.operands
 unfolding node_admission
 end_within t operands start k (Atom a) e h = h
 end_within t operands start k False e h = h

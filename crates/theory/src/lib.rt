@@ -39,12 +39,6 @@ pub struct Counts {
 }
 
 #[derive(Clone, Copy)]
-pub enum Admission {
-    Admitted,
-    Refused(Refusal),
-}
-
-#[derive(Clone, Copy)]
 pub enum Node {
     Atom(usize),
     False,
@@ -56,22 +50,22 @@ pub enum Node {
 }
 
 // Refusal 3, by the counts alone.
-pub fn limits(counts: Counts) -> Admission
+pub fn limits(counts: Counts) -> Result<(), Refusal>
     ensures { result ≡ limits_of counts }
 {
     if counts.atoms > 65536 {
-        return Admission::Refused(Refusal::PastLimit(0));
+        return Err(Refusal::PastLimit(0));
     }
     if counts.nodes > 262144 {
-        return Admission::Refused(Refusal::PastLimit(1));
+        return Err(Refusal::PastLimit(1));
     }
     if counts.operands > 1048576 {
-        return Admission::Refused(Refusal::PastLimit(2));
+        return Err(Refusal::PastLimit(2));
     }
     if counts.roots > 262144 {
-        return Admission::Refused(Refusal::PastLimit(3));
+        return Err(Refusal::PastLimit(3));
     }
-    Admission::Admitted
+    Ok(())
 }
 
 // Node k of the table.
@@ -99,12 +93,10 @@ pub fn all_below(operands: &[u32], k: usize, start: usize, count: usize) -> bool
     ensures { result ≡ all_below k (span operands.now start count) }
 {
     let end = start + count;
-    let mut i = start;
-    while i < end {
+    for i in start..end {
         if words::word(operands, i) >= k {
             return false;
         }
-        i += 1;
     }
     true
 }
@@ -117,51 +109,51 @@ fn admit_group(
     k: usize,
     s: usize,
     c: usize,
-) -> Admission
+) -> Result<(), Refusal>
     requires { (size ≤ length operands.now) × (s < 4294967296) × (c < 4294967296) }
     ensures { result ≡ group_admission size operands.now start k s c }
 {
     if c == 0 {
-        return Admission::Refused(Refusal::NoOperands(k));
+        return Err(Refusal::NoOperands(k));
     }
     if s != start {
-        return Admission::Refused(Refusal::BadOperand(k));
+        return Err(Refusal::BadOperand(k));
     }
     if s + c > size {
-        return Admission::Refused(Refusal::BadOperand(k));
+        return Err(Refusal::BadOperand(k));
     }
     if all_below(operands, k, s, c) {
-        Admission::Admitted
+        Ok(())
     } else {
-        Admission::Refused(Refusal::BadOperand(k))
+        Err(Refusal::BadOperand(k))
     }
 }
 
-fn admit_node(counts: Counts, operands: &[u32], start: usize, k: usize, node: Node) -> Admission
+fn admit_node(counts: Counts, operands: &[u32], start: usize, k: usize, node: Node) -> Result<(), Refusal>
     requires { (counts.operands ≤ length operands.now) × Small node }
     ensures { result ≡ node_admission counts operands.now start k node }
 {
     match node {
         Node::Atom(a) => {
             if a < counts.atoms {
-                Admission::Admitted
+                Ok(())
             } else {
-                Admission::Refused(Refusal::BadAtom(k))
+                Err(Refusal::BadAtom(k))
             }
         }
-        Node::False => Admission::Admitted,
+        Node::False => Ok(()),
         Node::Implies(left, right) => {
             if left >= k {
-                return Admission::Refused(Refusal::BadOperand(k));
+                return Err(Refusal::BadOperand(k));
             }
             if right >= k {
-                return Admission::Refused(Refusal::BadOperand(k));
+                return Err(Refusal::BadOperand(k));
             }
-            Admission::Admitted
+            Ok(())
         }
         Node::And(s, c) => admit_group(operands, counts.operands, start, k, s, c),
         Node::Or(s, c) => admit_group(operands, counts.operands, start, k, s, c),
-        Node::Unknown => Admission::Refused(Refusal::BadKind(k)),
+        Node::Unknown => Err(Refusal::BadKind(k)),
     }
 }
 
@@ -180,47 +172,38 @@ fn span_end(node: Node, start: usize) -> usize
     }
 }
 
-fn admit_nodes(counts: Counts, nodes: &[u32], operands: &[u32]) -> Admission
+fn admit_nodes(counts: Counts, nodes: &[u32], operands: &[u32]) -> Result<(), Refusal>
     requires { (3 * counts.nodes ≤ length nodes.now) × (counts.operands ≤ length operands.now) × (counts.operands ≤ 1048576) }
     ensures { result ≡ nodes_admission counts nodes.now operands.now }
 {
     let n = counts.nodes;
     let mut start = 0;
-    let mut k = 0;
-    while k < n {
+    for k in 0..n {
         let node = view(nodes, k);
-        let admitted = admit_node(counts, operands, start, k, node);
-        if let Admission::Refused(r) = admitted {
-            return Admission::Refused(r);
-        }
+        admit_node(counts, operands, start, k, node)?;
         start = span_end(node, start);
-        k += 1;
     }
-    Admission::Admitted
+    Ok(())
 }
 
-fn admit_roots(counts: Counts, roots: &[u32]) -> Admission
+fn admit_roots(counts: Counts, roots: &[u32]) -> Result<(), Refusal>
     requires { counts.roots ≤ length roots.now }
     ensures { result ≡ roots_admission counts roots.now }
 {
     let n = counts.roots;
-    let mut i = 0;
-    while i < n {
+    for i in 0..n {
         if words::word(roots, i) >= counts.nodes {
-            return Admission::Refused(Refusal::BadRoot(i));
+            return Err(Refusal::BadRoot(i));
         }
-        i += 1;
     }
-    Admission::Admitted
+    Ok(())
 }
 
 // Refusals 1, 6, 4, 5 node by node, then 7 root by root, of tables within the limits that are as long as the counts say.
-pub fn admit(counts: Counts, nodes: &[u32], operands: &[u32], roots: &[u32]) -> Admission
+pub fn admit(counts: Counts, nodes: &[u32], operands: &[u32], roots: &[u32]) -> Result<(), Refusal>
     requires { Limited counts × Lent counts (length nodes.now) (length operands.now) (length roots.now) }
     ensures { result ≡ admission counts nodes.now operands.now roots.now }
 {
-    match admit_nodes(counts, nodes, operands) {
-        Admission::Admitted => admit_roots(counts, roots),
-        Admission::Refused(r) => Admission::Refused(r),
-    }
+    admit_nodes(counts, nodes, operands)?;
+    admit_roots(counts, roots)
 }

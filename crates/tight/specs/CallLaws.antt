@@ -1,10 +1,9 @@
 -- A call by its outcome, once its answer is packed.
 -- Assumes nothing.
-use Rattle.std.specs.Prelude.{ℕ, ◌≡◌, List}
+use Rattle.std.specs.Prelude.{ℕ, ◌≡◌, List, Result}
 use Rattle.std.proofs.Common.{ap, sym, ◌∙◌, subst}
 use Rattle.theory.specs.declared.Counts.{Counts}
 use Rattle.plan.specs.Outcome.{Outcome, outcome, plan_outcome, certify_outcome}
-use Rattle.plan.specs.declared.Planning.{Planning}
 use Rattle.kept.specs.Tables.{Tables}
 use Rattle.kept.specs.Candidate.{Candidate}
 use Rattle.kept.specs.Outcome as checking
@@ -16,18 +15,19 @@ use Rattle.answers.specs.Fits.{PlanningFits, AnswerFits}
 use Rattle.answers.proofs.PlanFits.{plan_fits, certify_fits}
 use Rattle.answers.proofs.CheckFits.{outcome_fits}
 use Rattle.tight.specs.Call.{Plans, Checks}
+use Rattle.theory.specs.declared.Refusal.{Refusal}
 
-answer_fits : (o : Outcome) (a : Planning) (ps rs us ws : List ℕ) → outcome a ps rs us ws ≡ o → PlanningFits o.answer → PlanningFits a
+answer_fits : (o : Outcome) (a : Result ℕ Refusal) (ps rs us ws : List ℕ) → outcome a ps rs us ws ≡ o → PlanningFits o.answer → PlanningFits a
 answer_fits o a ps rs us ws e f = subst PlanningFits (sym (ap (λ (x : Outcome). x.answer) e)) f
 
-module _ (t : Counts) (nodes operands roots ps rs us ws : List ℕ) (a : Planning) (xs ys zs vs : List ℕ) where
+module _ (t : Counts) (nodes operands roots ps rs us ws : List ℕ) (a : Result ℕ Refusal) (xs ys zs vs : List ℕ) where
   pub planned_fits : outcome a xs ys zs vs ≡ plan_outcome t nodes operands roots ps rs us ws → PlanningFits a
   planned_fits e = answer_fits _ a xs ys zs vs e (plan_fits t nodes operands roots ps rs us ws)
 
   pub certified_fits : (proposed : List ℕ) → outcome a xs ys zs vs ≡ certify_outcome t nodes operands roots proposed ps rs us ws → PlanningFits a
   certified_fits proposed e = answer_fits _ a xs ys zs vs e (certify_fits t nodes operands roots ps rs us ws proposed)
 
-module _ (o : Outcome) (a : Planning) (ps rs us ws : List ℕ) (e : outcome a ps rs us ws ≡ o) where
+module _ (o : Outcome) (a : Result ℕ Refusal) (ps rs us ws : List ℕ) (e : outcome a ps rs us ws ≡ o) where
   pub plans : (word : ℕ) → word ≡ planning_word a → Plans o word ps rs us ws
   plans word w =
       record {

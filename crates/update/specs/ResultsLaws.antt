@@ -1,8 +1,7 @@
 -- Results from the parts that calls answer and leave.
 -- Assumes nothing.
-use Rattle.std.specs.Prelude.{ℕ, ◌≤◌, ◌≡◌, refl, List, length}
+use Rattle.std.specs.Prelude.{ℕ, ◌≤◌, ◌≡◌, refl, List, length, Option, Some, None}
 use Rattle.std.proofs.Common.{ap, ◌∙◌}
-use Rattle.std.proofs.Math.Option.{Option, some, none}
 use Rattle.theory.specs.declared.Refusal.{Refusal}
 use Rattle.kept.specs.Tables.{Tables}
 use Rattle.kept.specs.Evaluation.{Evaluation}
@@ -27,8 +26,8 @@ module _ (T : Tables) (ws : List ℕ) where
   concluded_results x o n e r after l f p a w = rw p (a, go o)
     where
       go : (o : Option Verdict) → Leaves T ws (concluded o n e) after
-      go none = rw w (beside_written T ws e l f)
-      go (some v) = w
+      go None = rw w (beside_written T ws e l f)
+      go (Some v) = w
 
   -- by equal results
   pub results_by : (x y : Result) (r : Checked) (after : List ℕ) → x ≡ y → Results T ws y r after → Results T ws x r after

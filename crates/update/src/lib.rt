@@ -31,12 +31,12 @@ pub enum Checked {
 }
 
 // A verdict after n nodes.
-fn told(judged: Judged, n: usize) -> Checked
+fn told(judged: Option<Verdict>, n: usize) -> Checked
     ensures { (e : Evaluation) → answer_of result ≡ answer_in (concluded (judged_of judged) n e) }
 {
     match judged {
-        Judged::Sure(v) => Checked::Accepted(v, n),
-        Judged::Stray => Checked::Refused(Refusal::BadEntry(0)),
+        Some(v) => Checked::Accepted(v, n),
+        None => Checked::Refused(Refusal::BadEntry(0)),
     }
 }
 

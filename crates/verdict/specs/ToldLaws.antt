@@ -1,10 +1,9 @@
 -- What each branch on the lowest false root and the lowest missing atom tells.
 -- Assumes nothing.
-use Rattle.std.specs.Prelude.{ℕ, ◌<◌, ◌≤◌, ◌-◌, ◌≡◌, refl, Bool, true, false, List, eqb, ltb, length, get_or, take, drop}
+use Rattle.std.specs.Prelude.{ℕ, ◌<◌, ◌≤◌, ◌-◌, ◌≡◌, refl, Bool, true, false, List, eqb, ltb, length, get_or, take, drop, Option, Some, None}
 use Rattle.std.proofs.Common.{arith, sym, ◌∙◌, ltb-true}
 use Rattle.std.proofs.Math.Path.{ap}
 use Rattle.std.proofs.Math.Bool.{cond}
-use Rattle.std.proofs.Math.Option.{Option, some, none}
 use Rattle.theory.specs.declared.Counts.{Counts}
 use Rattle.words.specs.Next.{next}
 use Rattle.kept.specs.CountedSet as sets
@@ -76,11 +75,11 @@ module _ (t : Counts) (roots ws : List ℕ) (f : Lookup) (p : (T : Tables) → l
   unfolding verdict_of
   judged-by l q T = ap (λ x. judged (With T) x (missing T)) (ap lookup_of (sym q) ∙ p (With T))
 
-  pub not_model_lem : (k x : ℕ) → f ≡ At k → x ≡ get_or roots k 0 → (T : Tables) → cond (ltb x t.nodes) (some (verdicts.not_model x)) none ≡ told T
+  pub not_model_lem : (k x : ℕ) → f ≡ At k → x ≡ get_or roots k 0 → (T : Tables) → cond (ltb x t.nodes) (Some (verdicts.not_model x)) None ≡ told T
   unfolding judged
-  not_model_lem k x q r T = ap (λ y. cond (ltb y t.nodes) (some (verdicts.not_model y)) none) r ∙ judged-by (At k) q T
+  not_model_lem k x q r T = ap (λ y. cond (ltb y t.nodes) (Some (verdicts.not_model y)) None) r ∙ judged-by (At k) q T
 
-  pub roots_astray : f ≡ Astray → (T : Tables) → none ≡ told T
+  pub roots_astray : f ≡ Astray → (T : Tables) → None ≡ told T
   unfolding judged
   roots_astray q T = judged-by Astray q T
 
@@ -88,14 +87,14 @@ module _ (t : Counts) (roots ws : List ℕ) (f : Lookup) (p : (T : Tables) → l
     left_by : (l : Lookup) → m ≡ l → (T : Tables) → judged (With T) sets.empty (lookup_of l) ≡ told T
     left_by l q T = ap (λ x. judged (With T) sets.empty x) (ap lookup_of (sym q) ∙ o (With T)) ∙ judged-by Empty model T
 
-    pub residual_of_lem : (a : ℕ) → m ≡ At a → (T : Tables) → some (verdicts.residual a) ≡ told T
+    pub residual_of_lem : (a : ℕ) → m ≡ At a → (T : Tables) → Some (verdicts.residual a) ≡ told T
     unfolding judged
     residual_of_lem a q T = left_by (At a) q T
 
-    pub missing_astray : m ≡ Astray → (T : Tables) → none ≡ told T
+    pub missing_astray : m ≡ Astray → (T : Tables) → None ≡ told T
     unfolding judged
     missing_astray q T = left_by Astray q T
 
-    pub stable_of : m ≡ Empty → (T : Tables) → some verdicts.stable ≡ told T
+    pub stable_of : m ≡ Empty → (T : Tables) → Some verdicts.stable ≡ told T
     unfolding judged
     stable_of q T = left_by Empty q T

@@ -2,7 +2,6 @@
 #![tactic(auto)]
 
 ghost use Rattle.std.specs.Prelude.{◌≡◌, cond, ℕ, ◌<◌, ◌≤◌, ltb, length};
-ghost use Rattle.std.proofs.Math.Option.{some, none};
 ghost use Rattle.theory.specs.Limits.{Limited};
 ghost use Rattle.kept.specs.CountedSet.{lookup};
 ghost use Rattle.kept.specs.Tables.{Tables};
@@ -70,28 +69,28 @@ fn first_missing(counts: Counts, kept: &[u32]) -> Lookup
 }
 
 // Not a model, by the false root `root`.
-fn false_root(counts: Counts, root: usize) -> Judged
-    ensures { judged_of result ≡ cond (ltb root counts.nodes) (some (not_model root)) none }
+fn false_root(counts: Counts, root: usize) -> Option<Verdict>
+    ensures { judged_of result ≡ cond (ltb root counts.nodes) (Some (not_model root)) None }
 {
     if root < counts.nodes {
-        Judged::Sure(Verdict::NotModel(root))
+        Some(Verdict::NotModel(root))
     } else {
-        Judged::Stray
+        None
     }
 }
 
 // By the false roots in root order, then the missing atoms.
-pub fn judge(counts: Counts, roots: &[u32], kept: &[u32]) -> Judged
+pub fn judge(counts: Counts, roots: &[u32], kept: &[u32]) -> Option<Verdict>
     requires { Limited counts × (counts.roots ≤ length roots.now) × (used_by counts ≤ length kept.now) }
     ensures { (T : Tables) → judged_of result ≡ verdict_of (rooted counts roots.now T) (of_words (rooted counts roots.now T) kept.now) }
 {
     match first_false(counts, kept) {
         Lookup::At(p) => false_root(counts, words::word(roots, p)),
-        Lookup::Astray => Judged::Stray,
+        Lookup::Astray => None,
         Lookup::Empty => match first_missing(counts, kept) {
-            Lookup::At(a) => Judged::Sure(Verdict::Residual(a)),
-            Lookup::Astray => Judged::Stray,
-            Lookup::Empty => Judged::Sure(Verdict::Stable),
+            Lookup::At(a) => Some(Verdict::Residual(a)),
+            Lookup::Astray => None,
+            Lookup::Empty => Some(Verdict::Stable),
         },
     }
 }

@@ -14,6 +14,6 @@ pub returns-in-Nothing : goal.returns-in-Nothing
 unfolding made_by appended
 returns-in-Nothing c = (rw c.in-Nothing.is (omega arith), rw c.in-Nothing.is)
 
-pub returns-in-Refused : goal.returns-in-Refused
+pub returns-in-Err : goal.returns-in-Err
 unfolding made_by appended
-returns-in-Refused c = (rw c.in-Refused.is (omega arith), rw c.in-Refused.is)
+returns-in-Err c = (rw c.in-Err.is (omega arith), rw c.in-Err.is)

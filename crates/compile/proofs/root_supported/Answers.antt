@@ -9,6 +9,6 @@ pub returns-in-Made : goal.returns-in-Made
 unfolding refused_by
 returns-in-Made c = rw c.in-Made.is
 
-pub returns-in-Refused : goal.returns-in-Refused
+pub returns-in-Err : goal.returns-in-Err
 unfolding refused_by
-returns-in-Refused c = rw c.in-Refused.is
+returns-in-Err c = rw c.in-Err.is

@@ -17,8 +17,8 @@ word-root-requires c = omega (arith, c.loop-i.invariant.1, c.requires.2.roots_lo
 pub produce-requires : goal.produce-requires
 produce-requires c = (rw c.word-root.ensures.value (c.requires.2.in_nodes _ (omega (arith, c.loop-i.invariant.1))), c.requires.0, c.requires.1)
 
-pub returns-in-Refused : goal.returns-in-Refused
-returns-in-Refused c = first_stop _ _ _ _ c.loop-i.invariant.2 _ c.loop-i-test.true (root_seen _ _ _ _ _ _ _ _ c.word-root.ensures.value c.produce.ensures c.root_supported-admitted.ensures ∙ c.in-Refused.is)
+pub returns-in-Err : goal.returns-in-Err
+returns-in-Err c = first_stop _ _ _ _ c.loop-i.invariant.2 _ c.loop-i-test.true (root_seen _ _ _ _ _ _ _ _ c.word-root.ensures.value c.produce.ensures c.root_supported-admitted.ensures ∙ c.in-Err.is)
 
 pub loop-i-preserved : goal.loop-i-preserved
 loop-i-preserved c = (search rules, search rules, first_go _ _ _ _ c.loop-i.invariant.2 c.loop-i-test.true (root_seen _ _ _ _ _ _ _ _ c.word-root.ensures.value c.produce.ensures c.root_supported-admitted.ensures ∙ c.in_default.is))

@@ -5,10 +5,10 @@ use native.Mathlib.Omega.{arith}
 use Rattle.complete.proofs.complete.Goals as goal
 
 pub summarize-requires : goal.summarize-requires
-summarize-requires c = record { limited = (c.requires.0, c.requires.1, c.requires.5, c.requires.6, omega (arith, c.lay_truths.auto, c.reset.auto, c.requires.7)); no_support = (λ T. ap (λ d. d.support) (of_sized c.args.counts T (planned c.args.counts c.args.made c.args.nodes.now c.args.operands.now c.args.roots.now c.args.producers.now T) c.lay_truths.new.kept) ∙ no_support (planned c.args.counts c.args.made c.args.nodes.now c.args.operands.now c.args.roots.now c.args.producers.now T) c.args.kept.now c.requires.7 c.args.candidate.now c.requires.8 _ (c.reset.ensures (planned c.args.counts c.args.made c.args.nodes.now c.args.operands.now c.args.roots.now c.args.producers.now T)) _ _ (c.lay_truths.ensures (planned c.args.counts c.args.made c.args.nodes.now c.args.operands.now c.args.roots.now c.args.producers.now T)) c.in-Admitted.is, λ T. ap (λ d. d.missing) (of_sized c.args.counts T (planned c.args.counts c.args.made c.args.nodes.now c.args.operands.now c.args.roots.now c.args.producers.now T) c.lay_truths.new.kept) ∙ no_missing (planned c.args.counts c.args.made c.args.nodes.now c.args.operands.now c.args.roots.now c.args.producers.now T) c.args.kept.now c.requires.7 c.args.candidate.now c.requires.8 _ (c.reset.ensures (planned c.args.counts c.args.made c.args.nodes.now c.args.operands.now c.args.roots.now c.args.producers.now T)) _ _ (c.lay_truths.ensures (planned c.args.counts c.args.made c.args.nodes.now c.args.operands.now c.args.roots.now c.args.producers.now T)) c.in-Admitted.is, λ T. ap (λ d. d.false_roots) (of_sized c.args.counts T (planned c.args.counts c.args.made c.args.nodes.now c.args.operands.now c.args.roots.now c.args.producers.now T) c.lay_truths.new.kept) ∙ no_roots (planned c.args.counts c.args.made c.args.nodes.now c.args.operands.now c.args.roots.now c.args.producers.now T) c.args.kept.now c.requires.7 c.args.candidate.now c.requires.8 _ (c.reset.ensures (planned c.args.counts c.args.made c.args.nodes.now c.args.operands.now c.args.roots.now c.args.producers.now T)) _ _ (c.lay_truths.ensures (planned c.args.counts c.args.made c.args.nodes.now c.args.operands.now c.args.roots.now c.args.producers.now T)) c.in-Admitted.is) }
+summarize-requires c = record { limited = (c.requires.0, c.requires.1, c.requires.5, c.requires.6, omega (arith, c.lay_truths.auto, c.reset.auto, c.requires.7)); no_support = (λ T. ap (λ d. d.support) (of_sized c.args.counts T (planned c.args.counts c.args.made c.args.nodes.now c.args.operands.now c.args.roots.now c.args.producers.now T) c.lay_truths.new.kept) ∙ no_support (planned c.args.counts c.args.made c.args.nodes.now c.args.operands.now c.args.roots.now c.args.producers.now T) c.args.kept.now c.requires.7 c.args.candidate.now c.requires.8 _ (c.reset.ensures (planned c.args.counts c.args.made c.args.nodes.now c.args.operands.now c.args.roots.now c.args.producers.now T)) _ _ (c.lay_truths.ensures (planned c.args.counts c.args.made c.args.nodes.now c.args.operands.now c.args.roots.now c.args.producers.now T)) c.in-Ok.is, λ T. ap (λ d. d.missing) (of_sized c.args.counts T (planned c.args.counts c.args.made c.args.nodes.now c.args.operands.now c.args.roots.now c.args.producers.now T) c.lay_truths.new.kept) ∙ no_missing (planned c.args.counts c.args.made c.args.nodes.now c.args.operands.now c.args.roots.now c.args.producers.now T) c.args.kept.now c.requires.7 c.args.candidate.now c.requires.8 _ (c.reset.ensures (planned c.args.counts c.args.made c.args.nodes.now c.args.operands.now c.args.roots.now c.args.producers.now T)) _ _ (c.lay_truths.ensures (planned c.args.counts c.args.made c.args.nodes.now c.args.operands.now c.args.roots.now c.args.producers.now T)) c.in-Ok.is, λ T. ap (λ d. d.false_roots) (of_sized c.args.counts T (planned c.args.counts c.args.made c.args.nodes.now c.args.operands.now c.args.roots.now c.args.producers.now T) c.lay_truths.new.kept) ∙ no_roots (planned c.args.counts c.args.made c.args.nodes.now c.args.operands.now c.args.roots.now c.args.producers.now T) c.args.kept.now c.requires.7 c.args.candidate.now c.requires.8 _ (c.reset.ensures (planned c.args.counts c.args.made c.args.nodes.now c.args.operands.now c.args.roots.now c.args.producers.now T)) _ _ (c.lay_truths.ensures (planned c.args.counts c.args.made c.args.nodes.now c.args.operands.now c.args.roots.now c.args.producers.now T)) c.in-Ok.is) }
 
-pub returns-in-Admitted : goal.returns-in-Admitted
-returns-in-Admitted c = λ T. complete_done (planned c.args.counts c.args.made c.args.nodes.now c.args.operands.now c.args.roots.now c.args.producers.now T) c.args.kept.now c.requires.7 c.args.candidate.now c.requires.8 _ (c.reset.ensures (planned c.args.counts c.args.made c.args.nodes.now c.args.operands.now c.args.roots.now c.args.producers.now T)) _ _ (c.lay_truths.ensures (planned c.args.counts c.args.made c.args.nodes.now c.args.operands.now c.args.roots.now c.args.producers.now T)) c.in-Admitted.is _ _ (c.summarize.ensures (planned c.args.counts c.args.made c.args.nodes.now c.args.operands.now c.args.roots.now c.args.producers.now T))
+pub returns-in-Ok : goal.returns-in-Ok
+returns-in-Ok c = λ T. complete_done (planned c.args.counts c.args.made c.args.nodes.now c.args.operands.now c.args.roots.now c.args.producers.now T) c.args.kept.now c.requires.7 c.args.candidate.now c.requires.8 _ (c.reset.ensures (planned c.args.counts c.args.made c.args.nodes.now c.args.operands.now c.args.roots.now c.args.producers.now T)) _ _ (c.lay_truths.ensures (planned c.args.counts c.args.made c.args.nodes.now c.args.operands.now c.args.roots.now c.args.producers.now T)) c.in-Ok.is _ _ (c.summarize.ensures (planned c.args.counts c.args.made c.args.nodes.now c.args.operands.now c.args.roots.now c.args.producers.now T))
 
-pub returns-in-Refused : goal.returns-in-Refused
-returns-in-Refused c = λ T. complete_stop (planned c.args.counts c.args.made c.args.nodes.now c.args.operands.now c.args.roots.now c.args.producers.now T) c.args.kept.now c.requires.7 c.args.candidate.now c.requires.8 _ (c.reset.ensures (planned c.args.counts c.args.made c.args.nodes.now c.args.operands.now c.args.roots.now c.args.producers.now T)) _ _ (c.lay_truths.ensures (planned c.args.counts c.args.made c.args.nodes.now c.args.operands.now c.args.roots.now c.args.producers.now T)) _ c.in-Refused.is
+pub returns-in-Err : goal.returns-in-Err
+returns-in-Err c = λ T. complete_stop (planned c.args.counts c.args.made c.args.nodes.now c.args.operands.now c.args.roots.now c.args.producers.now T) c.args.kept.now c.requires.7 c.args.candidate.now c.requires.8 _ (c.reset.ensures (planned c.args.counts c.args.made c.args.nodes.now c.args.operands.now c.args.roots.now c.args.producers.now T)) _ _ (c.lay_truths.ensures (planned c.args.counts c.args.made c.args.nodes.now c.args.operands.now c.args.roots.now c.args.producers.now T)) _ c.in-Err.is

@@ -29,5 +29,5 @@ returns-else-word-eq1 c = rw (edges_body c.args.counts c.args.nodes.now c.args.o
 pub returns-in-Nothing : goal.returns-in-Nothing
 returns-in-Nothing c = rw (edges_nothing c.args.counts c.args.nodes.now c.args.operands.now c.args.classes.now c.args.roots.now c.args.c.root _ _ c.word-root.ensures.value c.produce.ensures (rw c.in-Nothing.is not-nothing)) at (next_root c.args.counts c.args.nodes.now c.args.operands.now c.args.classes.now c.args.roots.now c.args.c c.requires.3 c.requires.0 c.requires.1)
 
-pub returns-in-Refused : goal.returns-in-Refused
-returns-in-Refused c = rw (edges_nothing c.args.counts c.args.nodes.now c.args.operands.now c.args.classes.now c.args.roots.now c.args.c.root _ _ c.word-root.ensures.value c.produce.ensures (rw c.in-Refused.is not_refused)) at (next_root c.args.counts c.args.nodes.now c.args.operands.now c.args.classes.now c.args.roots.now c.args.c c.requires.3 c.requires.0 c.requires.1)
+pub returns-in-Err : goal.returns-in-Err
+returns-in-Err c = rw (edges_nothing c.args.counts c.args.nodes.now c.args.operands.now c.args.classes.now c.args.roots.now c.args.c.root _ _ c.word-root.ensures.value c.produce.ensures (rw c.in-Err.is not_refused)) at (next_root c.args.counts c.args.nodes.now c.args.operands.now c.args.classes.now c.args.roots.now c.args.c c.requires.3 c.requires.0 c.requires.1)

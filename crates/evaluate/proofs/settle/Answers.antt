@@ -12,4 +12,4 @@ pub slice_bounds-clear-end-2 : goal.slice_bounds-clear-end-2
 slice_bounds-clear-end-2 c = sym (length-take-le c.args.n c.args.kept.now c.requires)
 
 pub returns : goal.returns
-returns c = (refl, ap (λ l. l ++ drop c.args.n c.args.kept.now) (c.clear.ensures ∙ ap (λ m. replicate m 0) (length-take-le c.args.n c.args.kept.now c.requires)) ∙ settled_refused c.args.n c.args.checked c.args.kept.now _ c.in-Refused.is)
+returns c = (refl, ap (λ l. l ++ drop c.args.n c.args.kept.now) (c.clear.ensures ∙ ap (λ m. replicate m 0) (length-take-le c.args.n c.args.kept.now c.requires)) ∙ settled_refused c.args.n c.args.checked c.args.kept.now _ c.in-Err.is)

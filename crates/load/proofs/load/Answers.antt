@@ -5,5 +5,5 @@ use Rattle.load.proofs.load.Goals as goal
 pub load_sound-requires : goal.load_sound-requires
 load_sound-requires c = sym c.judge.ensures ∙ c.in-Sound.is
 
-pub returns-in-Refused : goal.returns-in-Refused
-returns-in-Refused c = not_sound _ _ _ (sym c.judge.ensures ∙ c.in-Refused.is)
+pub returns-in-Err : goal.returns-in-Err
+returns-in-Err c = not_sound _ _ _ (sym c.judge.ensures ∙ c.in-Err.is)

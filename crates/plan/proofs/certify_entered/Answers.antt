@@ -9,9 +9,9 @@ use Rattle.plan.proofs.certify_entered.Goals as goal
 pub judge_proposed-judged-requires : goal.judge_proposed-judged-requires
 judge_proposed-judged-requires c = area_ready c.args.counts c.args.nodes.now c.args.operands.now c.args.roots.now _ _ _ c.args.work.now c.requires _ (part-rest 16 c.args.work.now)
 
-pub returns-in-Refused : goal.returns-in-Refused
+pub returns-in-Err : goal.returns-in-Err
 unfolding accepted_by
-returns-in-Refused c = rw c.clear.ensures (planned_refused c.args.counts c.args.nodes.now c.args.operands.now c.args.roots.now c.args.producers.now c.args.ranks.now c.args.readers.now c.args.work.now _ _ _ (last c.args.work.now c.judge_proposed-judged.new.area (omega (arith, c.requires.work_long)) (c.judge_proposed-judged.auto.area ∙ ap length (part-rest 16 c.args.work.now))) (last_long c.args.work.now c.judge_proposed-judged.new.area (omega (arith, c.requires.work_long)) (c.judge_proposed-judged.auto.area ∙ ap length (part-rest 16 c.args.work.now))) (sym c.judge_proposed-judged.ensures.answer ∙ c.in-Refused.is))
+returns-in-Err c = rw c.clear.ensures (planned_refused c.args.counts c.args.nodes.now c.args.operands.now c.args.roots.now c.args.producers.now c.args.ranks.now c.args.readers.now c.args.work.now _ _ _ (last c.args.work.now c.judge_proposed-judged.new.area (omega (arith, c.requires.work_long)) (c.judge_proposed-judged.auto.area ∙ ap length (part-rest 16 c.args.work.now))) (last_long c.args.work.now c.judge_proposed-judged.new.area (omega (arith, c.requires.work_long)) (c.judge_proposed-judged.auto.area ∙ ap length (part-rest 16 c.args.work.now))) (sym c.judge_proposed-judged.ensures.answer ∙ c.in-Err.is))
 
 pub finish-p-requires : goal.finish-p-requires
 unfolding accepted_by

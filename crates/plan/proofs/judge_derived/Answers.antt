@@ -1,8 +1,8 @@
 use Rattle.plan.specs.JudgedIn.{derived_unsupported, ready_after, empty_after, derived_ranks_lem, derived_cycle}
 use Rattle.plan.proofs.judge_derived.Goals as goal
 
-pub returns-in-Refused : goal.returns-in-Refused
-returns-in-Refused c = derived_unsupported c.args.counts c.args.nodes.now c.args.operands.now c.args.roots.now _ _ _ c.prepare-supported.ensures.0 c.in-Refused.is
+pub returns-in-Err : goal.returns-in-Err
+returns-in-Err c = derived_unsupported c.args.counts c.args.nodes.now c.args.operands.now c.args.roots.now _ _ _ c.prepare-supported.ensures.0 c.in-Err.is
 
 pub derive_ranks-requires : goal.derive_ranks-requires
 derive_ranks-requires c = (ready_after c.args.counts c.args.nodes.now c.args.operands.now c.args.roots.now c.args.area.now c.prepare-supported.new.area _ c.prepare-supported.ensures.0 c.in_default.is c.prepare-supported.ensures.1 c.requires.0, empty_after c.args.counts c.args.nodes.now c.args.operands.now c.args.roots.now c.args.area.now c.prepare-supported.new.area _ c.prepare-supported.ensures.0 c.in_default.is c.prepare-supported.ensures.1 c.requires.1)

@@ -13,6 +13,6 @@ pub returns-in-Made : goal.returns-in-Made
 unfolding produced_order
 returns-in-Made c = rw c.in-Made.is c.body_order.ensures
 
-pub returns-in-Refused : goal.returns-in-Refused
+pub returns-in-Err : goal.returns-in-Err
 unfolding produced_order
-returns-in-Refused c = rw c.in-Refused.is
+returns-in-Err c = rw c.in-Err.is

@@ -25,8 +25,8 @@ produce-made-requires c = (rw c.word-root.ensures.value (c.requires.4.in_nodes _
 pub produced_order-ordered-requires : goal.produced_order-ordered-requires
 produced_order-ordered-requires c = (c.requires.0, c.requires.1, c.requires.2, made_in _ _ _ _ c.requires.3 _ (rw c.word-root.ensures.value (c.requires.4.in_nodes _ (omega (arith, c.loop-i.invariant.1)))) _ c.produce-made.ensures)
 
-pub returns-in-Refused : goal.returns-in-Refused
-returns-in-Refused c = first_stop _ _ _ _ c.loop-i.invariant.2 _ c.loop-i-test.true (order_seen _ _ _ _ _ _ _ _ _ _ c.word-root.ensures.value c.produce-made.ensures c.produced_order-ordered.ensures ∙ c.in-Refused.is)
+pub returns-in-Err : goal.returns-in-Err
+returns-in-Err c = first_stop _ _ _ _ c.loop-i.invariant.2 _ c.loop-i-test.true (order_seen _ _ _ _ _ _ _ _ _ _ c.word-root.ensures.value c.produce-made.ensures c.produced_order-ordered.ensures ∙ c.in-Err.is)
 
 pub loop-i-preserved : goal.loop-i-preserved
 loop-i-preserved c = (search rules, search rules, first_go _ _ _ _ c.loop-i.invariant.2 c.loop-i-test.true (order_seen _ _ _ _ _ _ _ _ _ _ c.word-root.ensures.value c.produce-made.ensures c.produced_order-ordered.ensures ∙ c.in_default.is))

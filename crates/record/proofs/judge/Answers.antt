@@ -17,8 +17,8 @@ loop-c-smaller c = omega (arith, (next_within _ _ _ (sym c.judge_record.ensures 
 pub loop-c-preserved : goal.loop-c-preserved
 loop-c-preserved c = ((next_within _ _ _ (sym c.judge_record.ensures ∙ c.in-Next.is) c.loop-c.invariant.0).0, judge_go _ _ _ c.loop-c.invariant.0 c.loop-c.invariant.1 _ c.loop-c-test.true (sym c.judge_record.ensures ∙ c.in-Next.is))
 
-pub returns-in-Refused : goal.returns-in-Refused
-returns-in-Refused c = judge_stop _ _ _ c.loop-c.invariant.0 c.loop-c.invariant.1 _ c.loop-c-test.true (sym c.judge_record.ensures ∙ c.in-Refused.is)
+pub returns-in-Err : goal.returns-in-Err
+returns-in-Err c = judge_stop _ _ _ c.loop-c.invariant.0 c.loop-c.invariant.1 _ c.loop-c-test.true (sym c.judge_record.ensures ∙ c.in-Err.is)
 
 pub returns-then-c-eq0 : goal.returns-then-c-eq0
 unfolding verdict ended

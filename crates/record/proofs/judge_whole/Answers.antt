@@ -16,8 +16,8 @@ pub judge_values-requires : goal.judge_values-requires
 unfolding record_end
 judge_values-requires c = omega (arith, c.values_of-v.ensures.0, c.values_of-v.ensures.1, c.requires.1)
 
-pub returns-in-Admitted : goal.returns-in-Admitted
-returns-in-Admitted c = within_limits _ _ _ _ _ _ _ c.values_of-v.ensures.0 c.values_of-v.ensures.1 c.counts_after-counts.ensures c.limits.ensures _ _ c.in-Admitted.is c.passed-next.ensures c.judge_values.ensures
+pub returns-in-Ok : goal.returns-in-Ok
+returns-in-Ok c = within_limits _ _ _ _ _ _ _ c.values_of-v.ensures.0 c.values_of-v.ensures.1 c.counts_after-counts.ensures c.limits.ensures _ _ c.in-Ok.is c.passed-next.ensures c.judge_values.ensures
 
-pub returns-in-Refused : goal.returns-in-Refused
-returns-in-Refused c = past_limit _ _ _ _ _ _ _ c.values_of-v.ensures.0 c.values_of-v.ensures.1 c.counts_after-counts.ensures c.limits.ensures _ c.in-Refused.is
+pub returns-in-Err : goal.returns-in-Err
+returns-in-Err c = past_limit _ _ _ _ _ _ _ c.values_of-v.ensures.0 c.values_of-v.ensures.1 c.counts_after-counts.ensures c.limits.ensures _ c.in-Err.is

@@ -7,10 +7,10 @@ use Rattle.run.proofs.plan_lines.Goals as goal
 pub check_lines-requires : goal.check_lines-requires
 check_lines-requires c = (c.requires.0, c.requires.1, c.requires.2, omega (arith, put_end 10958 c.head_lines-end.ensures (length_head c.args.s.counts _ _ c.requires.1)))
 
-pub returns-in-Refused : goal.returns-in-Refused
+pub returns-in-Err : goal.returns-in-Err
 unfolding own_plan
-returns-in-Refused c = put_same
-    (plan_refused c.args.s.counts c.args.nodes.now c.args.operands.now c.args.roots.now (candidates_in c.args.file.now) _ _ _ _ _ c.plan-planning.ensures _ c.in-Refused.is)
+returns-in-Err c = put_same
+    (plan_refused c.args.s.counts c.args.nodes.now c.args.operands.now c.args.roots.now (candidates_in c.args.file.now) _ _ _ _ _ c.plan-planning.ensures _ c.in-Err.is)
     c.refused_line.ensures
 
 pub returns-in-Planned : goal.returns-in-Planned

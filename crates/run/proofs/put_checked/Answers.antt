@@ -5,6 +5,6 @@ pub returns-in-Accepted : goal.returns-in-Accepted
 unfolding check_line
 returns-in-Accepted c = rw c.in-Accepted.is c.verdict_line.ensures
 
-pub returns-in-Refused : goal.returns-in-Refused
+pub returns-in-Err : goal.returns-in-Err
 unfolding check_line
-returns-in-Refused c = rw c.in-Refused.is c.refused_line.ensures
+returns-in-Err c = rw c.in-Err.is c.refused_line.ensures

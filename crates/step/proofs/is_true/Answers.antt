@@ -1,18 +1,17 @@
+use Rattle.std.specs.Prelude.{Option, Some, None}
 use mathlib.Core.Path.{◌≡◌, refl, sym, ap, ◌∙◌}
 use mathlib.Core.Bool.{Bool, true, false}
 use mathlib.Core.Option.{some}
-use Rattle.node_truth.specs.declared.Seen.{Seen}
-use Rattle.node_truth.specs.declared.Seen.TheVariants.{True, False, Stray}
 use Rattle.node_truth.specs.InWords.{seen_of}
 use Rattle.step.proofs.is_true.Goals as goal
 
-yes : (s : Seen) → s ≡ True → (x : Bool) → seen_of s ≡ some x → true ≡ x
+yes : (s : Option Bool) → s ≡ Some true → (x : Bool) → seen_of s ≡ some x → true ≡ x
 yes s p x e = cc (sym (ap seen_of p) ∙ e)
 
-other : (s : Seen) → (s ≡ True → ⊥) → (x : Bool) → seen_of s ≡ some x → false ≡ x
-other True h x e = absurd (h refl)
-other False h x e = cc e
-other Stray h x e = cc e
+other : (s : Option Bool) → (s ≡ Some true → ⊥) → (x : Bool) → seen_of s ≡ some x → false ≡ x
+other (Some true) h x e = absurd (h refl)
+other (Some false) h x e = cc e
+other None h x e = cc e
 
 pub returns-in-True : goal.returns-in-True
 returns-in-True c = yes c.args.seen c.in-True.is

@@ -1,12 +1,12 @@
+use Rattle.std.specs.Prelude.{None}
 use mathlib.Core.Path.{◌≡◌}
 use native.Mathlib.Omega.{arith}
-use Rattle.node_truth.specs.declared.Seen.TheVariants.{Stray}
 use Rattle.kept_laws.specs.Given.{walked}
 use Rattle.step.specs.StepLaws.{step_lost, step-none, step_stray, step_taken}
 use Rattle.step.proofs.step.Goals as goal
 use Rattle.step.proofs.step.Goals.{In_default}
 
-known : (c : In_default) → c.node_truth-seen.result ≡ Stray → ⊥
+known : (c : In_default) → c.node_truth-seen.result ≡ None → ⊥
 known c e = c.in_default.not-Stray e
 
 pub returns-then-k-counts-2 : goal.returns-then-k-counts-2

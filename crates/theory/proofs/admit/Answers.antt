@@ -1,11 +1,12 @@
 use mathlib.Core.Path.{sym, ◌∙◌}
+use Rattle.base.specs.Raised.{raised}
 use Rattle.theory.specs.Admission.{admission}
 use Rattle.theory.proofs.admit.Goals as goal
 
-pub returns-in-Admitted : goal.returns-in-Admitted
+pub returns : goal.returns
 unfolding admission
-returns-in-Admitted c = rw (sym c.admit_nodes.ensures ∙ c.in-Admitted.is) c.admit_roots.ensures
+returns c = rw (sym c.admit_nodes.ensures ∙ c.in_ok-admit_nodes.was) c.admit_roots.ensures
 
-pub returns-in-Refused : goal.returns-in-Refused
+pub returns-in_err-admit_nodes : goal.returns-in_err-admit_nodes
 unfolding admission
-returns-in-Refused c = rw (sym c.admit_nodes.ensures ∙ c.in-Refused.is)
+returns-in_err-admit_nodes c = raised _ _ c.from_residual.ensures.1 ∙ rw (sym c.admit_nodes.ensures ∙ c.in_err-admit_nodes.was)
