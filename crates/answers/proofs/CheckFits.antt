@@ -1,6 +1,6 @@
 -- The answer of every check fits its word, on any tables and any words lent.
 -- Assumes nothing.
-use Rattle.std.specs.Prelude.{Ok, Err}
+use Rattle.std.specs.Prelude.{Ok, Err, Option, Some, None}
 use Prim.Native.Nat.{ℕ, zero, suc, ◌+◌, ◌*◌, ◌<◌, ◌≤◌}
 use native.Mathlib.Omega.{arith}
 use native.Mathlib.Nat.{min-le_left}
@@ -8,7 +8,6 @@ use mathlib.Core.Path.{◌≡◌, refl, ap, ◌∙◌, subst}
 use mathlib.Core.Logic.{◌⊎◌, inl, inr, ⊎_elim}
 use mathlib.Core.Bool.{Bool, true, false, cond, ◌&&◌}
 use mathlib.Core.List.{List, [], ◌∷◌}
-use mathlib.Core.Option.{Option, some, none}
 use lib.Dec.{eqb, ltb, leb}
 use lib.ListN.{length, set, length-take}
 use borrow.Author.Tests.{ltb-true}
@@ -100,8 +99,8 @@ module _ (T : Tables) where
   -- ---- the step and the walk
 
   took_place : (k m : ℕ) (o : Option Evaluation) → took_at k o ≡ fault m → k ≡ m
-  took_place k m none h = cc
-  took_place k m (some e) h = let z : ◌≡◌ {A = ℕ} 0 1 = cc in absurd (omega arith)
+  took_place k m None h = cc
+  took_place k m (Some e) h = let z : ◌≡◌ {A = ℕ} 0 1 = cc in absurd (omega arith)
 
   settled_place : (k m : ℕ) (t : Bool) (e : Evaluation) → settled T k t e ≡ fault m → k ≡ m
   unfolding settled
@@ -123,9 +122,9 @@ module _ (T : Tables) where
       n = node_count T
 
       from : (t : Option Bool) (w : Option Worklist) → settled_from T k e t w ≡ fault m → (k ≡ m) ⊎ (0 ≡ m)
-      from none w h = inl cc
-      from (some t) none h = inr cc
-      from (some t) (some w) h = inl (settled_place k m t (with_worklist e w) h)
+      from None w h = inl cc
+      from (Some t) None h = inr cc
+      from (Some t) (Some w) h = inl (settled_place k m t (with_worklist e w) h)
 
       go : (a b : Bool) → ltb k n ≡ a
           → cond a (settled_from T k e (seen T e k) (without_first n e.worklist)) (cond b idle (fault 0)) ≡ fault m → m ≤ n
@@ -153,8 +152,8 @@ module _ (T : Tables) where
     where
       go : (b : Bool) (o : Option Evaluation) → cond b (broken 0) (walk_from T o) ≡ broken m → m ≤ node_count T
       go true o h = let z : 0 ≡ m = cc in omega (arith, z)
-      go false none h = let z : 0 ≡ m = cc in omega (arith, z)
-      go false (some d) h = walk_place (suc (node_count T)) m d h
+      go false None h = let z : 0 ≡ m = cc in omega (arith, z)
+      go false (Some d) h = walk_place (suc (node_count T)) m d h
 
   -- ---- the verdict names a node or an atom
 
@@ -162,15 +161,15 @@ module _ (T : Tables) where
   abbrev Names : Verdict → Type 0
   Names v = named v ≤ node_count T + atom_count T
 
-  told_names : (e : Evaluation) (v : Verdict) → verdict_of T e ≡ some v → Names v
+  told_names : (e : Evaluation) (v : Verdict) → verdict_of T e ≡ Some v → Names v
   unfolding verdict_of judged
   told_names e v h = go (lookup (root_count T) 0 e.false_roots) (lookup (atom_count T) 0 e.missing) refl h
     where
-      root : (r : ℕ) (b : Bool) → ltb r (node_count T) ≡ b → cond b (some (not_model r)) none ≡ some v → Names v
+      root : (r : ℕ) (b : Bool) → ltb r (node_count T) ≡ b → cond b (Some (not_model r)) None ≡ Some v → Names v
       root r true q h = let z : not_model r ≡ v = cc in subst Names z (omega (arith, ltb-true r (node_count T) q))
       root r false q h = let z : ◌≡◌ {A = ℕ} 0 1 = cc in absurd (omega arith)
 
-      go : (f m : Lookup) → lookup (atom_count T) 0 e.missing ≡ m → judged T f m ≡ some v → Names v
+      go : (f m : Lookup) → lookup (atom_count T) 0 e.missing ≡ m → judged T f m ≡ Some v → Names v
       go (at r) m q h = root (root_at T r) (ltb (root_at T r) (node_count T)) refl h
       go astray m q h = let z : ◌≡◌ {A = ℕ} 0 1 = cc in absurd (omega arith)
       go empty (at a) q h = let z : residual a ≡ v = cc in subst Names z (omega (arith, lookup_below (atom_count T) 0 a e.missing q))
@@ -202,8 +201,8 @@ module _ (T : Tables) where
         few = ⊎_elim (λ q. omega (arith, q)) (λ q. omega (arith, q)) (rises_few 0 (node_count T) ks (kept_ends T J e f ks d h).rises)
 
         go : (o : Option Verdict) → verdict_of T d ≡ o → ResultFits (check.concluded o (length ks) d)
-        go none q = entry_fits 0 (omega arith) l
-        go (some v) q = answer_fits v (length ks) (told_names d v q) few
+        go None q = entry_fits 0 (omega arith) l
+        go (Some v) q = answer_fits v (length ks) (told_names d v q) few
     kept_fits J e f (broken place) h = entry_fits place (kept_place place J e h) l
 
     tables_fit : (J : Interpretation) → Fitting (tables_admission T J)
@@ -214,8 +213,8 @@ module _ (T : Tables) where
         (λ f. fitting_first (root_entry T) 0 (root_count T) (λ r m. fitting_passed (ltb (root_at T r) (node_count T)) (BadEntry 0) (entry_fits 0 (omega arith) l))))
       where
         node_fits : (k : ℕ) → k ≤ node_count T → (o : Option Bool) → Fitting (seen_entry k o)
-        node_fits k m none = fitting_refused (BadEntry k) (entry_fits k m l)
-        node_fits k m (some t) = fitting_admitted
+        node_fits k m None = fitting_refused (BadEntry k) (entry_fits k m l)
+        node_fits k m (Some t) = fitting_admitted
 
     fresh_fits : (J : Interpretation) (a : Admission) → tables_admission T J ≡ a → ResultFits (fresh_result T J a)
     unfolding fresh_result

@@ -1,16 +1,15 @@
 -- A root that is not refused has, as the papers see it, its node's formula; its producer names an atom and nodes of the theory.
 -- Assumes nothing.
-use Rattle.std.specs.Prelude.{Some, None, Result, Ok, Err}
+use Rattle.std.specs.Prelude.{Some, None, Result, Ok, Err, Option}
 use Prim.Native.Nat.{ℕ, ◌+◌, ◌<◌, ◌≤◌}
 use native.Mathlib.Omega.{arith}
 use mathlib.Core.Path.{◌≡◌, refl, sym, ap, ◌∙◌}
 use mathlib.Core.Bool.{Bool, true, false, cond}
 use mathlib.Core.List.{List}
-use mathlib.Core.Option.{Option, some, none}
 use lib.Dec.{eqb}
 use lib.ListN.{length, get_or}
 use Rattle.formula.specs.Formula.{Formula, implies}
-use Rattle.formula.specs.Head.{Head, normal, choice, flipped, head_atom, head_formula}
+use Rattle.formula.specs.Head.{Head, head_atom, head_formula}
 use Rattle.formula.specs.Root as papers
 use Rattle.theory.specs.Node.{node_at}
 use Rattle.theory.specs.NodeClass.{is_false}
@@ -26,7 +25,7 @@ use Rattle.theory.specs.declared.Node.TheVariants.{Atom, False, Implies, And, Or
 use Rattle.theory.specs.declared.Refusal.TheVariants.{UnsupportedBody}
 use Rattle.compile.specs.Head.{head_of}
 use Rattle.compile.specs.HeadLaws.{is_false_lem, head_below, head_formula_lem}
-use Rattle.compile.specs.Producer.{kind_word, fact, rule, producer, produced_by, produced}
+use Rattle.compile.specs.Producer.{fact, rule, producer, produced_by, produced}
 use Rattle.compile.specs.Producers.{refused_by}
 use Rattle.compile.specs.ProducersLaws.{MadeSmall}
 use Rattle.compile.specs.Roots.{fact_of, rule_of, root_by, root_of}
@@ -36,16 +35,16 @@ use Rattle.theory.specs.declared.Refusal.{Refusal}
 
 -- ---- the formula
 
-fact_head : (root : ℕ) (o : Option Head) → refused_by (fact root o) ≡ admitted → (g : Formula) → ((h : Head) → o ≡ some h → head_formula h ≡ g) → papers.root_formula (fact_of o) ≡ g
+fact_head : (root : ℕ) (o : Option Head) → refused_by (fact root o) ≡ admitted → (g : Formula) → ((h : Head) → o ≡ Some h → head_formula h ≡ g) → papers.root_formula (fact_of o) ≡ g
 unfolding fact refused_by
-fact_head root none e g w = absurd (not_both _ e)
-fact_head root (some h) e g w = w h refl
+fact_head root None e g w = absurd (not_both _ e)
+fact_head root (Some h) e g w = w h refl
 
-rule_head : (classes : List ℕ) (root b : ℕ) (o : Option Head) → refused_by (rule classes root b o) ≡ admitted → (x g : Formula) → ((h : Head) → o ≡ some h → head_formula h ≡ g)
+rule_head : (classes : List ℕ) (root b : ℕ) (o : Option Head) → refused_by (rule classes root b o) ≡ admitted → (x g : Formula) → ((h : Head) → o ≡ Some h → head_formula h ≡ g)
     → papers.root_formula (rule_of x o) ≡ implies x g
 unfolding rule refused_by
-rule_head classes root b none e x g w = absurd (not_both _ e)
-rule_head classes root b (some h) e x g w = ap (implies x) (w h refl)
+rule_head classes root b None e x g w = absurd (not_both _ e)
+rule_head classes root b (Some h) e x g w = ap (implies x) (w h refl)
 
 module _ (t : Counts) (nodes operands roots : List ℕ) (well : WellFormed t nodes operands roots) (long : t.operands ≤ length operands) (classes : List ℕ) where
   f : ℕ → Formula
@@ -86,26 +85,20 @@ pub record Bounded (t : Counts) (k : ℕ) (p : Producer) : Type 0 where
   pub head_in : p.head < t.atoms
   pub body_in_lem : p.body ≤ t.nodes
   pub root_is : p.root ≡ k
-  pub kind_in : p.kind ≤ 1
-
-kind_small : (h : Head) → kind_word h ≤ 1
-kind_small (normal a) = omega arith
-kind_small (choice a) = omega arith
-kind_small (flipped a) = omega arith
 
 module _ (t : Counts) (nodes operands classes : List ℕ) (tables : NodeTables t nodes operands) where
   bounded_by : (k body : ℕ) (h : Head) (p : Producer) → head_atom h < t.atoms → body ≤ t.nodes → producer k body h ≡ p → Bounded t k p
-  bounded_by k body h p a b e = let made : Bounded t k (producer k body h) = record { head_in = a; body_in_lem = b; root_is = refl; kind_in = kind_small h } in rw e at made
+  bounded_by k body h p a b e = let made : Bounded t k (producer k body h) = record { head_in = a; body_in_lem = b; root_is = refl } in rw e at made
 
-  fact_bounded : (k : ℕ) (o : Option Head) (p : Producer) → ((h : Head) → o ≡ some h → head_atom h < t.atoms) → fact k o ≡ Ok (Some p) → Bounded t k p
+  fact_bounded : (k : ℕ) (o : Option Head) (p : Producer) → ((h : Head) → o ≡ Some h → head_atom h < t.atoms) → fact k o ≡ Ok (Some p) → Bounded t k p
   unfolding fact
-  fact_bounded k none p w e = let z : ◌≡◌ {A = ℕ} 0 1 = cc in absurd (omega arith)
-  fact_bounded k (some h) p w e = bounded_by k 0 h p (w h refl) (omega arith) (cc)
+  fact_bounded k None p w e = let z : ◌≡◌ {A = ℕ} 0 1 = cc in absurd (omega arith)
+  fact_bounded k (Some h) p w e = bounded_by k 0 h p (w h refl) (omega arith) (cc)
 
-  rule_bounded : (k b : ℕ) (o : Option Head) (p : Producer) → ((h : Head) → o ≡ some h → head_atom h < t.atoms) → b < t.nodes → rule classes k b o ≡ Ok (Some p) → Bounded t k p
+  rule_bounded : (k b : ℕ) (o : Option Head) (p : Producer) → ((h : Head) → o ≡ Some h → head_atom h < t.atoms) → b < t.nodes → rule classes k b o ≡ Ok (Some p) → Bounded t k p
   unfolding rule
-  rule_bounded k b none p w l e = let z : ◌≡◌ {A = ℕ} 0 1 = cc in absurd (omega arith)
-  rule_bounded k b (some h) p w l e = go (eqb (get_or classes b 0) 2) e
+  rule_bounded k b None p w l e = let z : ◌≡◌ {A = ℕ} 0 1 = cc in absurd (omega arith)
+  rule_bounded k b (Some h) p w l e = go (eqb (get_or classes b 0) 2) e
     where
       go : (c : Bool) → cond c (Err (UnsupportedBody k b)) (Ok (Some (producer k (b + 1) h))) ≡ Ok (Some p) → Bounded t k p
       go true q = let z : ◌≡◌ {A = ℕ} 0 1 = cc in absurd (omega arith)
@@ -135,7 +128,7 @@ module _ (t : Counts) (nodes operands classes : List ℕ) (tables : NodeTables t
   small_by k m l (Ok None) w = tt
   small_by k m l (Ok (Some p)) w =
       let b = w p refl in
-      (omega (arith, b.head_in, m.atoms), omega (arith, b.body_in_lem, m.nodes), omega (arith, b.root_is, m.nodes), omega (arith, b.kind_in))
+      (omega (arith, b.head_in, m.atoms), omega (arith, b.body_in_lem, m.nodes), omega (arith, b.root_is, m.nodes))
   small_by k m l (Err r) w = tt
 
   -- each of its numbers is a u32

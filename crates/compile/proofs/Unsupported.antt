@@ -1,11 +1,10 @@
 -- A root that is refused is refused 10 or 11.
 -- Assumes nothing.
-use Rattle.std.specs.Prelude.{Some, None, Result, Ok, Err}
+use Rattle.std.specs.Prelude.{Some, None, Result, Ok, Err, Option}
 use Prim.Native.Nat.{ℕ, ◌+◌}
 use mathlib.Core.Path.{◌≡◌, refl}
 use mathlib.Core.Bool.{Bool, true, false, cond}
 use mathlib.Core.List.{List}
-use mathlib.Core.Option.{Option, some, none}
 use lib.Dec.{eqb}
 use lib.ListN.{get_or}
 use Rattle.formula.specs.Head.{Head}
@@ -28,13 +27,13 @@ module _ (P : Refusal → Type 0) where
 
   fact-only : (root : ℕ) → P (UnsupportedRoot root) → (o : Option Head) → OnlyBy (fact root o)
   unfolding fact refused_by
-  fact-only root ten none = only_refused P (UnsupportedRoot root) ten
-  fact-only root ten (some h) = only_admitted P
+  fact-only root ten None = only_refused P (UnsupportedRoot root) ten
+  fact-only root ten (Some h) = only_admitted P
 
   rule-only : (classes : List ℕ) (root body : ℕ) → P (UnsupportedRoot root) → P (UnsupportedBody root body) → (o : Option Head) → OnlyBy (rule classes root body o)
   unfolding rule refused_by
-  rule-only classes root body ten eleven none = only_refused P (UnsupportedRoot root) ten
-  rule-only classes root body ten eleven (some h) = go (eqb (get_or classes body 0) 2)
+  rule-only classes root body ten eleven None = only_refused P (UnsupportedRoot root) ten
+  rule-only classes root body ten eleven (Some h) = go (eqb (get_or classes body 0) 2)
     where
       go : (b : Bool) → OnlyBy (cond b (Err (UnsupportedBody root body)) (Ok (Some (producer root (body + 1) h))))
       go true = only_refused P (UnsupportedBody root body) eleven

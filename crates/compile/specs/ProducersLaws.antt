@@ -1,20 +1,30 @@
 -- The turns of a loop over the roots.
 -- Assumes nothing.
 use Rattle.std.specs.Prelude.{ℕ, ◌+◌, ◌*◌, ◌<◌, ◌≤◌, ◌≡◌, refl, List, [], ◌∷◌, ◌++◌, length, get_or, take, set, Option, Some, None, Result, Ok, Err}
-use Rattle.std.proofs.Common.{add-one, arith, sym, ap, ◌∙◌, append_assoc, append-nil, length-append, take-suc}
+use Rattle.std.proofs.Common.{add-one, arith, ap, ◌∙◌, append_assoc, append-nil, length-append, take-suc}
 use Rattle.base.specs.Front.{front, front_more}
+use Rattle.compile.specs.Head.{word_of}
 use Rattle.compile.specs.Producer.{produced}
 use Rattle.compile.specs.Producers.{refused_by, supported_at, made_by, producers, producers_before, producer_words}
 use Rattle.compile.specs.declared.Producer.{Producer}
-use Rattle.theory.specs.Admission.{Admission}
+use Rattle.theory.specs.Admission.{Admission, admitted}
 use Rattle.theory.specs.declared.Refusal.{Refusal}
+
+pub refused_ok : (made : Result (Option Producer) Refusal) (o : Option Producer) → made ≡ Ok o → refused_by made ≡ admitted
+unfolding refused_by
+refused_ok made None e = rw e
+refused_ok made (Some p) e = rw e
+
+pub refused_err : (made : Result (Option Producer) Refusal) (r : Refusal) → made ≡ Err r → refused_by made ≡ Err r
+unfolding refused_by
+refused_err made r e = rw e
 
 -- the root at hand, seen as the definition sees it
 pub root_seen : (nodes operands classes roots : List ℕ) (i root : ℕ) (made : Result (Option Producer) Refusal) (r : Admission)
-    → root ≡ get_or roots i 0 → made ≡ produced nodes operands classes root → r ≡ refused_by made
+    → root ≡ get_or roots i 0 → made ≡ produced nodes operands classes root → refused_by made ≡ r
     → supported_at nodes operands classes roots i ≡ r
 unfolding supported_at
-root_seen nodes operands classes roots i root made r p q e = rw (← p, ← q) (sym e)
+root_seen nodes operands classes roots i root made r p q e = rw (← p, ← q) e
 
 -- ---- the producers of the roots gone over
 

@@ -135,10 +135,16 @@ fn choice_head(counts: Counts, nodes: &[u32], operands: &[u32], p: usize, q: usi
 {
     let first = choice_of(counts, nodes, operands, p, q);
     if let Some(atom) = first {
-        return Some(Head { atom, kind: Kind::Choice });
+        return Some(Head {
+            atom,
+            kind: Kind::Choice,
+        });
     }
     match choice_of(counts, nodes, operands, q, p) {
-        Some(atom) => Some(Head { atom, kind: Kind::Choice }),
+        Some(atom) => Some(Head {
+            atom,
+            kind: Kind::Choice,
+        }),
         None => None,
     }
 }
@@ -149,7 +155,10 @@ fn head_of(counts: Counts, nodes: &[u32], operands: &[u32], k: usize) -> Option<
     ensures { result ≡ seen (head_of nodes.now operands.now (node_at nodes.now k)) }
 {
     match theory::view(nodes, k) {
-        Node::Atom(atom) => Some(Head { atom, kind: Kind::Normal }),
+        Node::Atom(atom) => Some(Head {
+            atom,
+            kind: Kind::Normal,
+        }),
         Node::Or(s, c) => {
             if c != 2 {
                 return None;
@@ -163,7 +172,12 @@ fn head_of(counts: Counts, nodes: &[u32], operands: &[u32], k: usize) -> Option<
 }
 
 // A head with a body: an Opaque body is refused.
-fn with_body(classes: &[u32], root: usize, body: usize, head: Head) -> Result<Option<Producer>, Refusal>
+fn with_body(
+    classes: &[u32],
+    root: usize,
+    body: usize,
+    head: Head,
+) -> Result<Option<Producer>, Refusal>
     requires { body < length classes.now }
     ensures { result ≡ bodied classes.now root body head }
 {
@@ -196,7 +210,12 @@ fn produce_rule(
     }
 }
 
-fn produce_fact(counts: Counts, nodes: &[u32], operands: &[u32], root: usize) -> Result<Option<Producer>, Refusal>
+fn produce_fact(
+    counts: Counts,
+    nodes: &[u32],
+    operands: &[u32],
+    root: usize,
+) -> Result<Option<Producer>, Refusal>
     requires { (root < counts.nodes) × NodeTables counts nodes.now operands.now }
     ensures { result ≡ fact root (head_of nodes.now operands.now (node_at nodes.now root)) }
 {
@@ -286,7 +305,8 @@ fn append(table: &mut [u32], n: usize, made: Result<Option<Producer>, Refusal>) 
             store(table, 4 * n, p);
             n + 1
         }
-        _ => n,
+        Ok(None) => n,
+        Err(_) => n,
     }
 }
 

@@ -1,13 +1,12 @@
 -- From the bytes of a file to Ferraris: what the text of a run tells, for every list of bytes.
 -- Assumes nothing.
-use Rattle.std.specs.Prelude.{Ok, Err}
+use Rattle.std.specs.Prelude.{Ok, Err, None}
 use Prim.Native.Nat.{ℕ, suc, ◌+◌, ◌*◌, ◌<◌, ◌≤◌}
 use native.Mathlib.Omega.{arith}
 use mathlib.Core.Path.{◌≡◌, refl, sym, ap, subst, ◌∙◌}
 use mathlib.Core.Logic.{⊎_elim}
 use mathlib.Core.Bool.{true, false≢true}
 use mathlib.Core.List.{List, [], ◌++◌, map}
-use mathlib.Core.Option.{none}
 use lib.ListN.{length, get_or, take, drop, replicate, length-replicate, length-append, length-drop}
 use borrow.Author.Tests.{le-ltb}
 use Rattle.base.specs.Tests.{below_or}
@@ -212,7 +211,7 @@ module _ (file : List ℕ) (f : TheoryFile) (enc : Encodes file f) where
           let l : i < s.candidates = omega (arith, k.so_many) in
           rw (k.holds i l) (k.stands i l).below
 
-      check : SeriesCheck 64 8 T (replicate 4112 0) (last_accepted 64 8 T (replicate 4112 0) none (map (candidate_of T) (take i cs))) ws (candidate_of T c)
+      check : SeriesCheck 64 8 T (replicate 4112 0) (last_accepted 64 8 T (replicate 4112 0) None (map (candidate_of T) (take i cs))) ws (candidate_of T c)
       check = run_check file s p made (take i cs) c (drop (suc i) cs) (parts_at cs i h)
 
       -- no check inside a run is refused

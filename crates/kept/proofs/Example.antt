@@ -1,10 +1,10 @@
 -- Document 01's example: the lines of its checks C1 to C4 by the definitions, refusals among them; its tables are planned, so that demand 3 speaks of them.
 -- Assumes nothing.
+use Rattle.std.specs.Prelude.{Some}
 use Prim.Native.Nat.{ℕ, zero, suc, ◌<◌, ◌+◌, ◌*◌, ◌^◌}
 use native.Mathlib.Omega.{arith}
 use mathlib.Core.Path.{◌≡◌, refl}
 use mathlib.Core.List.{List, [], ◌∷◌, ◌++◌}
-use mathlib.Core.Option.{some}
 use lib.ListN.{get_or, replicate}
 use Rattle.base.specs.Places.{places, count, lowest}
 use Rattle.base.specs.Rising.{rising, extended}
@@ -125,7 +125,7 @@ node_formed (suc zero) l = omega arith
 node_formed (suc (suc zero)) l = (omega arith, omega arith)
 node_formed (suc (suc (suc zero))) l = tt
 node_formed (suc (suc (suc (suc zero)))) l = (omega arith, omega arith)
-node_formed (suc (suc (suc (suc (suc zero))))) l = record { begins = refl; some = omega arith; fits = omega arith; lower = (omega arith, (omega arith, tt)) }
+node_formed (suc (suc (suc (suc (suc zero))))) l = record { begins = refl; Some = omega arith; fits = omega arith; lower = (omega arith, (omega arith, tt)) }
 node_formed (suc (suc (suc (suc (suc (suc k)))))) l = absurd (omega arith)
 
 root_in : (r : ℕ) → r < 2 → get_or example_tables.roots r 0 < 6
@@ -134,7 +134,7 @@ root_in zero l = omega arith
 root_in (suc zero) l = omega arith
 root_in (suc (suc r)) l = absurd (omega arith)
 
-readers-listed : (k : ℕ) → k < 6 → list_at example_tables k ≡ some (readers_of example_tables.counts example_tables.nodes example_tables.operands example_tables.roots example_tables.producers example_tables.made k)
+readers-listed : (k : ℕ) → k < 6 → list_at example_tables k ≡ Some (readers_of example_tables.counts example_tables.nodes example_tables.operands example_tables.roots example_tables.producers example_tables.made k)
 unfolding example_tables list_at between readers_of listing.joined reading_node occurrences packed places node_at span operands_of
 readers-listed zero l = refl
 readers-listed (suc zero) l = refl
@@ -144,7 +144,7 @@ readers-listed (suc (suc (suc (suc zero)))) l = refl
 readers-listed (suc (suc (suc (suc (suc zero))))) l = refl
 readers-listed (suc (suc (suc (suc (suc (suc k)))))) l = absurd (omega arith)
 
-atoms_listed : (a : ℕ) → a < 2 → list_at example_tables (7 + a) ≡ some (atom_nodes_of example_tables.counts example_tables.nodes a)
+atoms_listed : (a : ℕ) → a < 2 → list_at example_tables (7 + a) ≡ Some (atom_nodes_of example_tables.counts example_tables.nodes a)
 unfolding example_tables list_at between atom_nodes_of places node_at
 atoms_listed zero l = refl
 atoms_listed (suc zero) l = refl

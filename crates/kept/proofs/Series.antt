@@ -1,12 +1,11 @@
 -- Demand 3, whole: every series of checks by one plan, from zeroed words.
 -- Assumes nothing.
-use Rattle.std.specs.Prelude.{Ok, Err}
+use Rattle.std.specs.Prelude.{Ok, Err, Option, Some, None}
 use Prim.Native.Nat.{ℕ, ◌+◌}
 use native.Mathlib.Omega.{arith}
 use mathlib.Core.Path.{◌≡◌, refl, ap, ap₂, sym, ◌∙◌}
 use mathlib.Core.Bool.{cond}
 use mathlib.Core.List.{List, [], ◌∷◌}
-use mathlib.Core.Option.{Option, some, none}
 use lib.ListN.{length}
 use borrow.Author.Tests.{le-leb, lt-leb}
 use Rattle.formula.specs.Passes.{Within}
@@ -43,12 +42,12 @@ module _ (T : Tables) (plan : PlannedTables T) where
     -- ---- the words of a series: zeroed, or those of the last accepted candidate
 
     abbrev evaluation_of : Option Candidate → Evaluation
-    evaluation_of none = zeroed T
-    evaluation_of (some c) = fresh T (atoms_of T c)
+    evaluation_of None = zeroed T
+    evaluation_of (Some c) = fresh T (atoms_of T c)
 
     fits : (o : Option Candidate) → Fits T (evaluation_of o)
-    fits none = fits_zeroed T
-    fits (some c) = fits_fresh T (atoms_of T c)
+    fits None = fits_zeroed T
+    fits (Some c) = fits_fresh T (atoms_of T c)
 
     state : Option Candidate → List ℕ
     state o = image (evaluation_of o) (behind T past)
@@ -61,7 +60,7 @@ module _ (T : Tables) (plan : PlannedTables T) where
     unfolding state size
     length_state o = length-image T (evaluation_of o) (fits o) (behind T past)
 
-    zero_state : zeroed_words T past ≡ state none
+    zero_state : zeroed_words T past ≡ state None
     unfolding state
     zero_state = sym (zero-image T past)
 
@@ -69,23 +68,23 @@ module _ (T : Tables) (plan : PlannedTables T) where
     Passes c = tests T c size ≡ admitted
 
     abbrev Passed : Option Candidate → Type 0
-    Passed none = Unit {0}
-    Passed (some c) = Passes c
+    Passed None = Unit {0}
+    Passed (Some c) = Passes c
 
     -- ---- one check
 
     gone : Option Candidate → Candidate → ℕ
-    gone none c = node_count T
-    gone (some d) c = gone_over T good floor divisor (atoms_of T d) (atoms_of T c)
+    gone None c = node_count T
+    gone (Some d) c = gone_over T good floor divisor (atoms_of T d) (atoms_of T c)
 
     result_state : (o : Option Candidate) (c : Candidate) → Within (atom_count T) (atoms_of T c)
         → result floor divisor T (atoms_of T c) (evaluation_of o) ≡ check.accepted (verdict T (atoms_of T c)) (gone o c) (fresh T (atoms_of T c))
     unfolding gone
-    result_state none c w = result_zeroed T good floor divisor (atoms_of T c)
-    result_state (some d) c w = result_fresh T good floor divisor (atoms_of T d) (atoms_of T c) w
+    result_state None c w = result_zeroed T good floor divisor (atoms_of T c)
+    result_state (Some d) c w = result_fresh T good floor divisor (atoms_of T d) (atoms_of T c) w
 
     outcome-passed : (o : Option Candidate) (c : Candidate) → Passes c
-        → outcome floor divisor T c (state o) ≡ record { answer = accepted (verdict T (atoms_of T c)) (gone o c); words = state (some c) }
+        → outcome floor divisor T c (state o) ≡ record { answer = accepted (verdict T (atoms_of T c)) (gone o c); words = state (Some c) }
     unfolding outcome outcome_at state
     outcome-passed o c e =
         ap (λ n. outcome_at floor divisor T c (state o) (tests T c n)) (length_state o)
@@ -100,9 +99,9 @@ module _ (T : Tables) (plan : PlannedTables T) where
     outcome_refused o c r e =
         ap (λ n. outcome_at floor divisor T c (state o) (tests T c n)) (length_state o) ∙ ap (outcome_at floor divisor T c (state o)) e
 
-    walk_state : (d c : Candidate) → kept_walk T (atoms_of T c) (of_words T (state (some d))) ≡ kept_walk T (atoms_of T c) (fresh T (atoms_of T d))
+    walk_state : (d c : Candidate) → kept_walk T (atoms_of T c) (of_words T (state (Some d))) ≡ kept_walk T (atoms_of T c) (fresh T (atoms_of T d))
     unfolding state
-    walk_state d c = ap (kept_walk T (atoms_of T c)) (of_image T (evaluation_of (some d)) (fits (some d)) (behind T past))
+    walk_state d c = ap (kept_walk T (atoms_of T c)) (of_image T (evaluation_of (Some d)) (fits (Some d)) (behind T past))
 
     -- whether the check is a kept one goes by the evaluation that the words hold
     kept_state : (o : Option Candidate) (c : Candidate) → is_kept floor divisor T (atoms_of T c) (of_words T (state o)) ≡ is_kept floor divisor T (atoms_of T c) (evaluation_of o)
@@ -111,19 +110,19 @@ module _ (T : Tables) (plan : PlannedTables T) where
 
     gone_over_lem : (o : Option Candidate) (c : Candidate) → Within (atom_count T) (atoms_of T c) → GoneOver floor divisor T o (state o) c (gone o c)
     unfolding gone gone_over
-    gone_over_lem none c w = (kept_state none c ∙ not-kept T good floor divisor (atoms_of T c), refl)
-    gone_over_lem (some d) c w =
+    gone_over_lem None c w = (kept_state None c ∙ not-kept T good floor divisor (atoms_of T c), refl)
+    gone_over_lem (Some d) c w =
         let changed : ℕ = changed_atoms T (atoms_of T d) (atoms_of T c) in
-        let kept = kept_state (some d) c ∙ is_kept_lem T good floor divisor (atoms_of T d) (atoms_of T c) w in (
+        let kept = kept_state (Some d) c ∙ is_kept_lem T good floor divisor (atoms_of T d) (atoms_of T c) w in (
           λ h. let few = le-leb changed (most floor divisor T) h in (kept ∙ few, walk_state d c ∙ walk T good (atoms_of T d) (atoms_of T c), rw few),
           λ h. let many = lt-leb changed (most floor divisor T) h in (kept ∙ many, rw many),
         )
 
-    checked : (o : Option Candidate) (c : Candidate) → SeriesCheck floor divisor T (state none) o (state o) c
+    checked : (o : Option Candidate) (c : Candidate) → SeriesCheck floor divisor T (state None) o (state o) c
     unfolding gone
     checked o c = go (tests T c size) refl
       where
-        go : (a : Admission) → tests T c size ≡ a → SeriesCheck floor divisor T (state none) o (state o) c
+        go : (a : Admission) → tests T c size ≡ a → SeriesCheck floor divisor T (state None) o (state o) c
         go (Ok u) e =
             let x = outcome-passed o c e in
             let said : answer_to floor divisor T c (state o) ≡ accepted (verdict T (atoms_of T c)) (gone o c) = ap (λ y. y.answer) x in
@@ -133,7 +132,7 @@ module _ (T : Tables) (plan : PlannedTables T) where
               unaltered = λ r z. let q : ◌≡◌ {A = ℕ} 0 1 = cc in absurd (omega arith);
               as_fresh = λ v n z.
                   let q : verdict T (atoms_of T c) ≡ v = cc in
-                  outcome-passed none c e ∙ ap₂ (λ (y : Verdict) (ws : List ℕ). record { answer = accepted y (node_count T); words = ws }) q (sym (ap (λ y. y.words) x));
+                  outcome-passed None c e ∙ ap₂ (λ (y : Verdict) (ws : List ℕ). record { answer = accepted y (node_count T); words = ws }) q (sym (ap (λ y. y.words) x));
               decides = λ v n z. let q : verdict T (atoms_of T c) ≡ v = cc in rw q at (decided T plan (atoms_of T c) (atoms_within T c size e));
               residual_shows = λ a n z.
                   let q : verdict T (atoms_of T c) ≡ residual a = cc in
@@ -166,27 +165,27 @@ module _ (T : Tables) (plan : PlannedTables T) where
       where
         Goal : Outcome → Type 0
         Goal x =
-            (series_words floor divisor T x.words cs ≡ state (last_accepted floor divisor T x.words (cond (is_accepted x.answer) (some c) o) cs))
-            × Passed (last_accepted floor divisor T x.words (cond (is_accepted x.answer) (some c) o) cs)
+            (series_words floor divisor T x.words cs ≡ state (last_accepted floor divisor T x.words (cond (is_accepted x.answer) (Some c) o) cs))
+            × Passed (last_accepted floor divisor T x.words (cond (is_accepted x.answer) (Some c) o) cs)
 
         go : (a : Admission) → tests T c size ≡ a → ((o : Option Candidate) → Passed o → Reached o o cs) → Goal (outcome floor divisor T c (state o))
-        go (Ok u) e ih = rw (outcome-passed o c e) (ih (some c) e)
+        go (Ok u) e ih = rw (outcome-passed o c e) (ih (Some c) e)
         go (Err r) e ih = rw (outcome_refused o c r e) (ih o p)
 
-    anew_state : (o : Option Candidate) → Passed o → anew floor divisor T (state none) o ≡ state o
-    anew_state none p = refl
-    anew_state (some c) p = ap (λ x. x.words) (outcome-passed none c p)
+    anew_state : (o : Option Candidate) → Passed o → anew floor divisor T (state None) o ≡ state o
+    anew_state None p = refl
+    anew_state (Some c) p = ap (λ x. x.words) (outcome-passed None c p)
 
 -- DEMAND 3
 pub series : (floor divisor : ℕ) (T : Tables) → PlannedTables T → (past : List ℕ) (cs : List Candidate) → Demand3 floor divisor T past cs
 series floor divisor T plan past cs =
     record {
-      after = rw (zero_state T plan floor divisor past) (r.0 ∙ sym (anew_state T plan floor divisor past (last_accepted floor divisor T (state T plan floor divisor past none) none cs) r.1));
+      after = rw (zero_state T plan floor divisor past) (r.0 ∙ sym (anew_state T plan floor divisor past (last_accepted floor divisor T (state T plan floor divisor past None) None cs) r.1));
       each = λ before c later e.
           rw (zero_state T plan floor divisor past)
-          (rw (run T plan floor divisor past none tt before).0
-          (checked T plan floor divisor past (last_accepted floor divisor T (state T plan floor divisor past none) none before) c));
+          (rw (run T plan floor divisor past None tt before).0
+          (checked T plan floor divisor past (last_accepted floor divisor T (state T plan floor divisor past None) None before) c));
     }
   where
-    r : Reached T plan floor divisor past none none cs
-    r = run T plan floor divisor past none tt cs
+    r : Reached T plan floor divisor past None None cs
+    r = run T plan floor divisor past None tt cs

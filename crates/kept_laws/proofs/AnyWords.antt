@@ -1,13 +1,12 @@
 -- On any words: the kept walk takes rising nodes, each once, and leaves an empty worklist; an outcome keeps the words' length and those past the listed ones.
 -- Assumes nothing.
-use Rattle.std.specs.Prelude.{Ok, Err}
+use Rattle.std.specs.Prelude.{Ok, Err, Option, Some, None}
 use Prim.Native.Nat.{ℕ, zero, suc, ◌≤◌, ◌+◌, ◌-◌, ◌*◌}
 use native.Mathlib.Omega.{arith}
 use mathlib.Core.Path.{◌≡◌, refl, ap, sym, ◌∙◌}
 use mathlib.Core.Logic.{◌⊎◌, inl, inr}
 use mathlib.Core.Bool.{Bool, true, false, cond, ◌&&◌}
 use mathlib.Core.List.{List}
-use mathlib.Core.Option.{Option, some, none}
 use lib.Dec.{ltb, leb}
 use lib.ListN.{length, drop, replicate, length-append, length-drop, length-replicate}
 use lib.Seq.{drop_at, drop-drop}
@@ -44,8 +43,8 @@ module _ (T : Tables) where
 
   module _ (J : Interpretation) (e : Evaluation) (f : Fits T e) (ks : List ℕ) (d : Evaluation) where
     from_ends : (o : Option Evaluation) → walk_start T J (atom_count T) e ≡ o → walk_from T o ≡ ended ks d → Ends J e ks d
-    from_ends none p h = let z : ◌≡◌ {A = ℕ} 0 1 = cc in absurd (omega arith)
-    from_ends (some s) p h =
+    from_ends None p h = let z : ◌≡◌ {A = ℕ} 0 1 = cc in absurd (omega arith)
+    from_ends (Some s) p h =
         let r = walk_ends T (suc (node_count T)) s d ks (start_fits T J (atom_count T) e s p f) (omega arith, omega arith) h in
         record { rises = rises_lower T 0 s.worklist.first (node_count T) ks (omega arith) r.0; finished = r.1; fits = r.2 }
 
@@ -76,8 +75,8 @@ module _ (T : Tables) where
       go (Err s) p e ih = h i r (p ∙ e)
 
   seen_17 : (k : ℕ) (t : Option Bool) (r : Refusal) → seen_entry k t ≡ Err r → Is17 r
-  seen_17 k none r e = (k, cc)
-  seen_17 k (some t) r e = absurd (not_both r (sym e))
+  seen_17 k None r e = (k, cc)
+  seen_17 k (Some t) r e = absurd (not_both r (sym e))
 
   entry_17 : (b : Bool) (place : ℕ) (r : Refusal) → entry b place ≡ Err r → Is17 r
   entry_17 true place r e = absurd (not_both r (sym e))
@@ -106,8 +105,8 @@ module _ (T : Tables) where
   kept-sound J e f (ended ks d) h = go (verdict_of T d)
     where
       go : (o : Option Verdict) → Sound (check.concluded o (length ks) d)
-      go none = (0, refl)
-      go (some v) = (kept_ends J e f ks d h).fits
+      go None = (0, refl)
+      go (Some v) = (kept_ends J e f ks d h).fits
   kept-sound J e f (broken place) h = (place, refl)
 
   fresh-sound : (J : Interpretation) (a : Admission) → tables_admission T J ≡ a → Sound (fresh_result T J a)

@@ -1,12 +1,11 @@
 -- A fresh check by the tables and by their listed words is the same.
 -- Assumes nothing.
-use Rattle.std.specs.Prelude.{Ok, Err}
+use Rattle.std.specs.Prelude.{Ok, Err, Option, Some, None}
 use Prim.Native.Nat.{ℕ, zero, suc, ◌<◌, ◌≤◌, ◌+◌}
 use native.Mathlib.Omega.{arith}
 use mathlib.Core.Path.{◌≡◌, refl, ap, ap₂, sym, ◌∙◌}
 use mathlib.Core.Logic.{⊎_elim}
 use mathlib.Core.Bool.{Bool, false, not}
-use mathlib.Core.Option.{Option, some, none}
 use lib.ListN.{get_or}
 use Rattle.base.specs.Tests.{equal_or}
 use Rattle.base.specs.Places.{count_agree}
@@ -33,7 +32,7 @@ use Rattle.kept_laws.proofs.ListedReads.{seen-listed, head_listed, body_listed, 
 use Rattle.kept_laws.proofs.ListedWalk.{verdict_of-listed}
 
 -- a node whose truth is read has that truth, whatever the tables
-truth-seen : (T : Tables) (J : Interpretation) (k : ℕ) (t : Bool) → k < node_count T → seen_by T J (truth T J) k ≡ some t → truth T J k ≡ t
+truth-seen : (T : Tables) (J : Interpretation) (k : ℕ) (t : Bool) → k < node_count T → seen_by T J (truth T J) k ≡ Some t → truth T J k ≡ t
 unfolding truth node_truths
 truth-seen T J k t l e =
     rising_at false make (node_count T) k l
@@ -62,10 +61,10 @@ module _ (T : Tables) (J : Interpretation) where
           seen-listed T J (truth (listed_tables T) J) i (omega arith)
           ∙ seen_agree T J J (truth (listed_tables T) J) (truth T J) i (λ a l. refl) h
 
-      here : (t : Bool) → seen_by T J (truth T J) i ≡ some t → truth (listed_tables T) J i ≡ truth T J i
+      here : (t : Bool) → seen_by T J (truth T J) i ≡ Some t → truth (listed_tables T) J i ≡ truth T J i
       here t e = truth-seen (listed_tables T) J i t (omega arith) (same ∙ e) ∙ sym (truth-seen T J i t (omega arith) e)
 
-      next : (t : Bool) → seen_by T J (truth T J) i ≡ some t → AgreeBelow (i + 1)
+      next : (t : Bool) → seen_by T J (truth T J) i ≡ Some t → AgreeBelow (i + 1)
       next t e k l = ⊎_elim (λ q. rw q (here t e)) (λ ne. h k (omega arith)) (equal_or k i)
 
       go : (o : Option Bool) → seen_by T J (truth T J) i ≡ o
@@ -74,8 +73,8 @@ module _ (T : Tables) (J : Interpretation) where
           → (or_else (seen_entry i (seen_by (listed_tables T) J (truth (listed_tables T) J) i)) (first_refusal (node_entry (listed_tables T) J) (i + 1) n)
           ≡ or_else (seen_entry i (seen_by T J (truth T J) i)) (first_refusal (node_entry T J) (i + 1) n))
           × (or_else (seen_entry i (seen_by T J (truth T J) i)) (first_refusal (node_entry T J) (i + 1) n) ≡ admitted → AgreeBelow (node_count T))
-      go none e ih = rw (same, e) (refl, λ x. absurd (not_both (BadEntry i) x))
-      go (some t) e ih = rw (same, e) (ih (next t e))
+      go None e ih = rw (same, e) (refl, λ x. absurd (not_both (BadEntry i) x))
+      go (Some t) e ih = rw (same, e) (ih (next t e))
 
   module _ (few : T.made ≤ root_count T) where
     -- ---- producers and roots

@@ -1,11 +1,11 @@
 -- What a check reads in the tables is the same in their listed words.
 -- Assumes nothing.
+use Rattle.std.specs.Prelude.{Some, None}
 use Prim.Native.Nat.{ℕ, zero, suc, ◌<◌, ◌≤◌, ◌+◌, ◌-◌, ◌*◌}
 use native.Mathlib.Omega.{arith}
 use mathlib.Core.Path.{◌≡◌, refl, ap}
 use mathlib.Core.Bool.{Bool, true, false, cond, ◌&&◌}
 use mathlib.Core.List.{List, [], ◌∷◌}
-use mathlib.Core.Option.{some, none}
 use lib.Dec.{leb}
 use lib.ListN.{get_or, take, drop}
 use lib.Seq.{get_or-take, take-take}
@@ -38,7 +38,7 @@ module _ (T : Tables) where
       )
 
   group_listed : (v : ℕ → Bool) (k : ℕ) (d : Bool) (s c : ℕ) (b : Bool) → leb (s + c) T.counts.operands ≡ b
-      → cond b (group_seen k v d (span (listed_tables T).operands s c)) none ≡ cond b (group_seen k v d (span T.operands s c)) none
+      → cond b (group_seen k v d (span (listed_tables T).operands s c)) None ≡ cond b (group_seen k v d (span T.operands s c)) None
   unfolding span
   group_listed v k d s c true e = ap (group_seen k v d) (take_within s c T.counts.operands T.operands (leb-true (s + c) T.counts.operands e))
   group_listed v k d s c false e = refl
@@ -62,9 +62,9 @@ module _ (T : Tables) where
   between-listed a e = go (leb a e) refl (leb e (reader_words T.counts)) refl
     where
       go : (x : Bool) → leb a e ≡ x → (y : Bool) → leb e (reader_words T.counts) ≡ y
-          → cond (x && y) (some (part (listed_tables T).readers a e)) none ≡ cond (x && y) (some (part T.readers a e)) none
+          → cond (x && y) (Some (part (listed_tables T).readers a e)) None ≡ cond (x && y) (Some (part T.readers a e)) None
       go true p true q =
-          ap some (take_within a (e - a) (reader_words T.counts) T.readers (omega (arith, leb-true a e p, leb-true e (reader_words T.counts) q)))
+          ap Some (take_within a (e - a) (reader_words T.counts) T.readers (omega (arith, leb-true a e p, leb-true e (reader_words T.counts) q)))
       go true p false q = refl
       go false p y q = refl
 

@@ -1,11 +1,11 @@
 -- A kept check's walk by the tables and by their listed words is the same.
 -- Assumes nothing.
+use Rattle.std.specs.Prelude.{Option, Some, None}
 use Prim.Native.Nat.{ℕ, zero, suc, ◌<◌, ◌≤◌, ◌*◌}
 use native.Mathlib.Omega.{arith}
 use mathlib.Core.Path.{◌≡◌, refl, ap, ap₂, fun_ext}
 use mathlib.Core.Bool.{Bool, true, false, cond, ◌&&◌}
 use mathlib.Core.List.{List, [], ◌∷◌}
-use mathlib.Core.Option.{Option, some, none}
 use lib.Dec.{eqb, ltb}
 use lib.ListN.{get_or, length, set}
 use borrow.Author.Tests.{ltb-true}
@@ -33,7 +33,7 @@ module _ (T : Tables) where
   all_entered-listed : (e : Evaluation) (ks : List ℕ) → all_entered (listed_tables T) e ks ≡ all_entered T e ks
   unfolding all_entered entered
   all_entered-listed e [] = refl
-  all_entered-listed e (k ∷ ks) = ap (and_then (cond (ltb k (node_count T)) (entered T k e) none)) (fun_ext (λ d. all_entered-listed d ks))
+  all_entered-listed e (k ∷ ks) = ap (and_then (cond (ltb k (node_count T)) (entered T k e) None)) (fun_ext (λ d. all_entered-listed d ks))
 
   atom_turned-listed : (J : Interpretation) (a : ℕ) (e : Evaluation) → a < atom_count T → atom_turned (listed_tables T) J a e ≡ atom_turned T J a e
   unfolding atom_turned
@@ -43,7 +43,7 @@ module _ (T : Tables) where
 
   atom_updated-listed : (J : Interpretation) (a : ℕ) (e : Evaluation) → a < atom_count T → atom_updated (listed_tables T) J a e ≡ atom_updated T J a e
   unfolding atom_updated
-  atom_updated-listed J a e l = ap (λ o. cond (unlike (present e a) (J a)) o (some e)) (atom_turned-listed J a e l)
+  atom_updated-listed J a e l = ap (λ o. cond (unlike (present e a) (J a)) o (Some e)) (atom_turned-listed J a e l)
 
   start_listed : (J : Interpretation) (n : ℕ) (e : Evaluation) → n ≤ atom_count T → walk_start (listed_tables T) J n e ≡ walk_start T J n e
   unfolding walk_start
@@ -70,7 +70,7 @@ module _ (T : Tables) where
 
       go : (x y : Bool) → ltb r (root_count T) ≡ y → judged (listed_tables T) (cond x empty (cond y (at r) astray)) m ≡ judged T (cond x empty (cond y (at r) astray)) m
       go true y q = none_found m
-      go false true q = ap (λ k. cond (ltb k (node_count T)) (some (not_model k)) none) (root_listed T r (ltb-true r (root_count T) q))
+      go false true q = ap (λ k. cond (ltb k (node_count T)) (Some (not_model k)) None) (root_listed T r (ltb-true r (root_count T) q))
       go false false q = refl
 
   module _ (few : T.made ≤ root_count T) where
@@ -82,9 +82,9 @@ module _ (T : Tables) where
     reader_listed k t e (Producer p) = go (ltb p T.made) refl
       where
         go : (b : Bool) → ltb p T.made ≡ b
-            → cond (b && ltb (head_at (listed_tables T) p) (atom_count T)) (support_moved (listed_tables T) t (head_at (listed_tables T) p) e) none
-            ≡ cond (b && ltb (head_at T p) (atom_count T)) (support_moved T t (head_at T p) e) none
-        go true q = ap (λ a. cond (ltb a (atom_count T)) (support_moved T t a e) none) (head_listed T p (omega (arith, ltb-true p T.made q)))
+            → cond (b && ltb (head_at (listed_tables T) p) (atom_count T)) (support_moved (listed_tables T) t (head_at (listed_tables T) p) e) None
+            ≡ cond (b && ltb (head_at T p) (atom_count T)) (support_moved T t (head_at T p) e) None
+        go true q = ap (λ a. cond (ltb a (atom_count T)) (support_moved T t a e) None) (head_listed T p (omega (arith, ltb-true p T.made q)))
         go false q = refl
     reader_listed k t e (Root r) = refl
     reader_listed k t e Unknown = refl
@@ -101,9 +101,9 @@ module _ (T : Tables) where
         (fun_ext (all_readers-listed k t (with_truths e (set e.truths k (truth_word t)))))
 
     settled_from-listed : (k : ℕ) (e : Evaluation) → k < node_count T → (o : Option Bool) (w : Option Worklist) → settled_from (listed_tables T) k e o w ≡ settled_from T k e o w
-    settled_from-listed k e l none w = refl
-    settled_from-listed k e l (some t) none = refl
-    settled_from-listed k e l (some t) (some w) = settled-listed k t (with_worklist e w) l
+    settled_from-listed k e l None w = refl
+    settled_from-listed k e l (Some t) None = refl
+    settled_from-listed k e l (Some t) (Some w) = settled-listed k t (with_worklist e w) l
 
     step_at-listed : (e : Evaluation) (k : ℕ) → step_at (listed_tables T) e k ≡ step_at T e k
     unfolding step_at seen
@@ -128,8 +128,8 @@ module _ (T : Tables) where
     steps-listed (suc n) e = ap₂ (onward e) (fun_ext (steps-listed n)) (step_at-listed e e.worklist.first)
 
     walk_from-listed : (o : Option Evaluation) → walk_from (listed_tables T) o ≡ walk_from T o
-    walk_from-listed none = refl
-    walk_from-listed (some e) = steps-listed (suc (node_count T)) e
+    walk_from-listed None = refl
+    walk_from-listed (Some e) = steps-listed (suc (node_count T)) e
 
     pub walk-listed : (J : Interpretation) (e : Evaluation) → kept_walk (listed_tables T) J e ≡ kept_walk T J e
     unfolding kept_walk

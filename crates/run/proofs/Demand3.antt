@@ -1,10 +1,10 @@
 -- Demand 3 of a run: every line for a candidate tells a check of one series, which begins on zeroed words.
 -- Assumes nothing.
+use Rattle.std.specs.Prelude.{None}
 use Prim.Native.Nat.{ℕ, ◌+◌, ◌-◌, ◌≤◌}
 use native.Mathlib.Omega.{arith}
 use mathlib.Core.Path.{◌≡◌, refl, sym, ap, subst, ◌∙◌}
 use mathlib.Core.List.{List, [], ◌∷◌, ◌++◌, map, map-append, append_assoc}
-use mathlib.Core.Option.{none}
 use lib.ListN.{length, take, replicate, length-replicate, replicate-append-replicate}
 use Rattle.record.specs.File.{theory_file}
 use Rattle.record.specs.declared.Summary.{Summary}
@@ -71,10 +71,10 @@ module _ (file : List ℕ) (s : Summary) (p : ℕ) (f : PlannedFile file s p) wh
     run_line = ap (λ l. check_lines T 0 l (replicate 4112 0)) e ∙ line_of T 0 (length before) before c later (replicate 4112 0) (omega arith)
 
     -- and that check is as demand 3 says
-    pub run_check : SeriesCheck 64 8 T (replicate 4112 0) (last_accepted 64 8 T (replicate 4112 0) none (map (candidate_of T) before)) (words_lent T (replicate 4112 0) before) (candidate_of T c)
+    pub run_check : SeriesCheck 64 8 T (replicate 4112 0) (last_accepted 64 8 T (replicate 4112 0) None (map (candidate_of T) before)) (words_lent T (replicate 4112 0) before) (candidate_of T c)
     run_check =
         subst
-        (λ (z : List ℕ). SeriesCheck 64 8 T z (last_accepted 64 8 T z none (map (candidate_of T) before)) (words_lent T z before) (candidate_of T c))
+        (λ (z : List ℕ). SeriesCheck 64 8 T z (last_accepted 64 8 T z None (map (candidate_of T) before)) (words_lent T z before) (candidate_of T c))
         (zeroed T 4112 fits)
         ((run_series (replicate (4112 - listed T) 0)).each (map (candidate_of T) before) (candidate_of T c) (map (candidate_of T) later)
         (ap (map (candidate_of T)) e ∙ map-append (candidate_of T) before (c ∷ later)))

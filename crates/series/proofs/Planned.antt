@@ -1,12 +1,11 @@
 -- An accepted planning call leaves planned tables.
 -- Assumes nothing.
-use Rattle.std.specs.Prelude.{Ok, Err}
+use Rattle.std.specs.Prelude.{Ok, Err, Some}
 use Prim.Native.Nat.{ℕ, ◌+◌, ◌-◌, ◌*◌, ◌<◌, ◌≤◌}
 use native.Mathlib.Omega.{arith}
 use mathlib.Core.Path.{◌≡◌, refl, ap, sym, ◌∙◌}
 use mathlib.Core.Bool.{true}
 use mathlib.Core.List.{List, ◌++◌}
-use mathlib.Core.Option.{some}
 use lib.ListN.{length, get_or, take, drop}
 use lib.Seq.{length-take-le, take-append_seam}
 use borrow.Author.Tests.{lt-ltb, le-ltb}
@@ -45,7 +44,7 @@ use Rattle.kept.specs.Tables.{between, list_at}
 use Rattle.kept.specs.Planned.{PlannedTables}
 use Rattle.series.specs.Lent.{lent}
 
-between_there : (most : ℕ) (words : List ℕ) (s : ℕ) → in_order words most s ≡ true → between most words (get_or words s 0) (get_or words (s + 1) 0) ≡ some (laying.list_at words s)
+between_there : (most : ℕ) (words : List ℕ) (s : ℕ) → in_order words most s ≡ true → between most words (get_or words s 0) (get_or words (s + 1) 0) ≡ Some (laying.list_at words s)
 unfolding between in_order laying.list_at
 between_there most words s e = rw e
 
@@ -129,11 +128,11 @@ module _ (t : Counts) (nodes operands roots ps rs us ws : List ℕ) where
     unfolding built laid_over
     laid_there = refl
 
-    list_is : (s : ℕ) → s < slots t → between (reader_words t) table (get_or table s 0) (get_or table (s + 1) 0) ≡ some (lists s)
+    list_is : (s : ℕ) → s < slots t → between (reader_words t) table (get_or table s 0) (get_or table (s + 1) 0) ≡ Some (lists s)
     list_is s l =
         between_there (reader_words t) table s
         (true_in_order table (reader_words t) s (in_order_more table (start_of lists (slots t) (slots t)) (reader_words t) s room (in_order_there lists (slots t) table _ laid_there s l)))
-        ∙ ap some (list_there lists (slots t) table _ laid_there s l)
+        ∙ ap Some (list_there lists (slots t) table _ laid_there s l)
 
     node_list_lem : (k : ℕ) → k < t.nodes → lists k ≡ readers_of t nodes operands roots written (length made) k
     unfolding list_of
@@ -162,8 +161,8 @@ module _ (t : Counts) (nodes operands roots ps rs us ws : List ℕ) where
           supported = supported;
           made = refl;
           producer_words_lem = words_there;
-          readers = λ k l. list_is k (omega arith) ∙ ap some (node_list_lem k l);
-          atom_nodes = λ a l. list_is (t.nodes + 1 + a) (omega arith) ∙ ap some (atom_list a);
+          readers = λ k l. list_is k (omega arith) ∙ ap Some (node_list_lem k l);
+          atom_nodes = λ a l. list_is (t.nodes + 1 + a) (omega arith) ∙ ap Some (atom_list a);
           ranks = λ a. get_or ranked a 0;
           ranked = paper.planned t nodes operands classes_of roots well tables listed classed supported ranked accepted;
           stamp = refl;

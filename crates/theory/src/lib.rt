@@ -129,7 +129,13 @@ fn admit_group(
     }
 }
 
-fn admit_node(counts: Counts, operands: &[u32], start: usize, k: usize, node: Node) -> Result<(), Refusal>
+fn admit_node(
+    counts: Counts,
+    operands: &[u32],
+    start: usize,
+    k: usize,
+    node: Node,
+) -> Result<(), Refusal>
     requires { (counts.operands ≤ length operands.now) × Small node }
     ensures { result ≡ node_admission counts operands.now start k node }
 {

@@ -1,27 +1,9 @@
-use Rattle.compile.specs.Head.{found_of}
 use mathlib.Core.Path.{sym, ◌∙◌}
+use Rattle.compile.specs.ProducerLaws.{no_atom}
 use Rattle.compile.proofs.atom_at.Goals as goal
 
 pub returns-in-Atom : goal.returns-in-Atom
-unfolding found_of
 returns-in-Atom c = rw (sym c.view.ensures.value ∙ c.in-Atom.is)
 
-pub returns-in-False : goal.returns-in-False
-unfolding found_of
-returns-in-False c = rw (sym c.view.ensures.value ∙ c.in-False.is)
-
-pub returns-in-Implies : goal.returns-in-Implies
-unfolding found_of
-returns-in-Implies c = rw (sym c.view.ensures.value ∙ c.in-Implies.is)
-
-pub returns-in-And : goal.returns-in-And
-unfolding found_of
-returns-in-And c = rw (sym c.view.ensures.value ∙ c.in-And.is)
-
-pub returns-in-Or : goal.returns-in-Or
-unfolding found_of
-returns-in-Or c = rw (sym c.view.ensures.value ∙ c.in-Or.is)
-
-pub returns-in-Unknown : goal.returns-in-Unknown
-unfolding found_of
-returns-in-Unknown c = rw (sym c.view.ensures.value ∙ c.in-Unknown.is)
+pub returns-in_default : goal.returns-in_default
+returns-in_default c = rw (sym c.view.ensures.value) (no_atom _ c.in_default.not-Atom)

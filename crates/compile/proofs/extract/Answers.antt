@@ -21,12 +21,6 @@ produce-produced-requires c = (rw c.word-root.ensures.value (c.requires.4.in_nod
 pub append-made-requires : goal.append-made-requires
 append-made-requires c = (omega (arith, c.loop-i.invariant.1, c.loop-i.invariant.2, c.loop-i.invariant.3, c.requires.1), made_small _ _ _ _ c.requires.3 _ c.requires.2 (rw c.word-root.ensures.value (c.requires.4.in_nodes _ (omega (arith, c.loop-i.invariant.1)))) _ c.produce-produced.ensures, omega (arith, c.loop-i.invariant.1, c.loop-i.invariant.2, c.requires.2.roots))
 
-pub overflow_add-i : goal.overflow_add-i
-overflow_add-i c = omega (arith, c.loop-i.invariant.1, c.requires.2.roots)
-
-pub loop-i-smaller : goal.loop-i-smaller
-loop-i-smaller c = omega arith
-
 pub loop-i-preserved : goal.loop-i-preserved
 loop-i-preserved c = (search rules, search rules, omega (arith, c.append-made.ensures.0, made_one c.produce-produced.result, c.loop-i.invariant.2), c.append-made.auto.table ∙ c.loop-i.invariant.3, extract_count _ _ _ _ _ _ _ (omega (arith, c.loop-i.invariant.1, c.requires.4.roots_long)) c.word-root.ensures.value c.produce-produced.ensures _ _ c.loop-i.invariant.4 c.append-made.ensures.0, extract_table _ _ _ _ _ _ _ (omega (arith, c.loop-i.invariant.1, c.requires.4.roots_long)) c.word-root.ensures.value c.produce-produced.ensures _ _ _ _ c.loop-i.invariant.4 (omega (arith, c.loop-i.invariant.1, c.loop-i.invariant.2, c.requires.1)) c.loop-i.invariant.5 c.append-made.ensures.1)
 

@@ -2,11 +2,12 @@ use mathlib.Core.Path.{sym, ◌∙◌}
 use native.Mathlib.Omega.{arith}
 use borrow.Author.Tests.{eq-eqb, ne_eqb}
 use Rattle.theory.specs.Formed.{or_indexed}
-use Rattle.compile.specs.Head.{head_of, headed_of}
+use Rattle.compile.specs.Head.{head_of, seen}
+use Rattle.compile.specs.ProducerLaws.{no_head}
 use Rattle.compile.proofs.head_of.Goals as goal
 
 pub returns-then-c-ne2 : goal.returns-then-c-ne2
-unfolding head_of headed_of
+unfolding head_of seen
 returns-then-c-ne2 c = simp (sym c.view.ensures.value ∙ c.in-Or.is, ne_eqb _ _ c.if-c-ne2.true)
 
 pub word-p-requires : goal.word-p-requires
@@ -22,25 +23,12 @@ pub choice_head-requires : goal.choice_head-requires
 choice_head-requires c = (rw c.word-p.ensures.value ((or_indexed _ _ _ c.requires.1 _ c.requires.0 c.args.counts.nodes _ _ (omega (arith, c.requires.0)) (sym c.view.ensures.value ∙ c.in-Or.is)).lower _ (omega arith) (omega arith)), rw c.word-q.ensures.value ((or_indexed _ _ _ c.requires.1 _ c.requires.0 c.args.counts.nodes _ _ (omega (arith, c.requires.0)) (sym c.view.ensures.value ∙ c.in-Or.is)).lower _ (omega arith) (omega arith)), c.requires.1)
 
 pub returns-in-Atom : goal.returns-in-Atom
-unfolding head_of headed_of
+unfolding head_of seen
 returns-in-Atom c = simp (sym c.view.ensures.value ∙ c.in-Atom.is)
 
 pub returns-else-c-ne2 : goal.returns-else-c-ne2
-unfolding head_of headed_of
+unfolding head_of seen
 returns-else-c-ne2 c = simp (sym c.view.ensures.value ∙ c.in-Or.is, eq-eqb _ _ c.if-c-ne2.false, ← c.word-p.ensures.value, ← c.word-q.ensures.value) c.choice_head.ensures
 
-pub returns-in-False : goal.returns-in-False
-unfolding head_of headed_of
-returns-in-False c = simp (sym c.view.ensures.value ∙ c.in-False.is)
-
-pub returns-in-Implies : goal.returns-in-Implies
-unfolding head_of headed_of
-returns-in-Implies c = simp (sym c.view.ensures.value ∙ c.in-Implies.is)
-
-pub returns-in-And : goal.returns-in-And
-unfolding head_of headed_of
-returns-in-And c = simp (sym c.view.ensures.value ∙ c.in-And.is)
-
-pub returns-in-Unknown : goal.returns-in-Unknown
-unfolding head_of headed_of
-returns-in-Unknown c = simp (sym c.view.ensures.value ∙ c.in-Unknown.is)
+pub returns-in_default : goal.returns-in_default
+returns-in_default c = rw (sym c.view.ensures.value) (no_head _ _ _ c.in_default.not-Atom c.in_default.not-Or)

@@ -2,6 +2,7 @@ use mathlib.Core.Path.{sym, ◌∙◌}
 use native.Mathlib.Omega.{arith}
 use Rattle.theory.specs.Formed.{left_below, right_below}
 use Rattle.compile.specs.Producer.{produced, produced_by}
+use Rattle.compile.specs.ProducerLaws.{as_fact}
 use Rattle.compile.proofs.produce.Goals as goal
 
 pub is_false-requires : goal.is_false-requires
@@ -22,18 +23,6 @@ pub returns-else-is_false : goal.returns-else-is_false
 unfolding produced produced_by
 returns-else-is_false c = simp (sym c.view.ensures.value ∙ c.in-Implies.is, sym c.is_false.ensures ∙ c.if-is_false.false) c.produce_rule.ensures
 
-pub returns-in-Atom : goal.returns-in-Atom
-unfolding produced produced_by
-returns-in-Atom c = simp (sym c.view.ensures.value ∙ c.in-Atom.is) (rw (sym c.view.ensures.value ∙ c.in-Atom.is) at c.produce_fact.ensures)
-
-pub returns-in-And : goal.returns-in-And
-unfolding produced produced_by
-returns-in-And c = simp (sym c.view.ensures.value ∙ c.in-And.is) (rw (sym c.view.ensures.value ∙ c.in-And.is) at c.produce_fact-in-And.ensures)
-
-pub returns-in-Or : goal.returns-in-Or
-unfolding produced produced_by
-returns-in-Or c = simp (sym c.view.ensures.value ∙ c.in-Or.is) (rw (sym c.view.ensures.value ∙ c.in-Or.is) at c.produce_fact-in-Or.ensures)
-
-pub returns-in-Unknown : goal.returns-in-Unknown
-unfolding produced produced_by
-returns-in-Unknown c = simp (sym c.view.ensures.value ∙ c.in-Unknown.is) (rw (sym c.view.ensures.value ∙ c.in-Unknown.is) at c.produce_fact-in-Unknown.ensures)
+pub returns-in_default : goal.returns-in_default
+unfolding produced
+returns-in_default c = c.produce_fact.ensures ∙ as_fact _ _ _ _ _ (λ e. c.in_default.not-False (c.view.ensures.value ∙ e)) (λ l r e. c.in_default.not-Implies l r (c.view.ensures.value ∙ e))

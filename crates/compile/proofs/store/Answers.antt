@@ -1,6 +1,5 @@
 use native.Mathlib.Omega.{arith}
 use lib.ListN.{length-set}
-use mathlib.Core.Path.{refl}
 use Rattle.compile.specs.ProducersLaws.{stored}
 use Rattle.compile.proofs.store.Goals as goal
 
@@ -15,4 +14,4 @@ bounds-table-at-4 c = simp length-set (omega (arith, c.requires.0))
 
 pub returns : goal.returns
 unfolding stored
-returns c = refl
+returns c = rw c.from.ensures

@@ -1,7 +1,7 @@
+use Rattle.std.specs.Prelude.{Some, None}
 use native.Mathlib.Omega.{arith}
 use mathlib.Core.Path.{refl, sym, ◌∙◌}
 use mathlib.Core.Bool.{false}
-use mathlib.Core.Option.{some, none}
 use Rattle.theory.specs.Node.{node_at}
 use Rattle.theory.specs.declared.Node.TheVariants.{Implies}
 use Rattle.kept.specs.Seen.{node_seen}
@@ -26,7 +26,7 @@ returns-in-Atom c = let g = c.args in λ T. truth-stored (viewed g.counts g.node
 
 pub returns-in-False : goal.returns-in-False
 unfolding node_seen
-returns-in-False c = let g = c.args in λ T. truth-stored (viewed g.counts g.nodes.now g.operands.now T) g.kept.now c.requires.4 g.k c.requires.1 _ (sym c.in-False.is ∙ c.view.ensures.value) (some false) refl _ _ c.lay-in-False.ensures
+returns-in-False c = let g = c.args in λ T. truth-stored (viewed g.counts g.nodes.now g.operands.now T) g.kept.now c.requires.4 g.k c.requires.1 _ (sym c.in-False.is ∙ c.view.ensures.value) (Some false) refl _ _ c.lay-in-False.ensures
 
 pub returns-in-Implies : goal.returns-in-Implies
 unfolding node_seen implies_seen
@@ -42,4 +42,4 @@ returns-in-Or c = let g = c.args in λ T. truth-stored (viewed g.counts g.nodes.
 
 pub returns-in-Unknown : goal.returns-in-Unknown
 unfolding node_seen
-returns-in-Unknown c = let g = c.args in λ T. truth-stored (viewed g.counts g.nodes.now g.operands.now T) g.kept.now c.requires.4 g.k c.requires.1 _ (sym c.in-Unknown.is ∙ c.view.ensures.value) none refl _ _ (refl, refl)
+returns-in-Unknown c = let g = c.args in λ T. truth-stored (viewed g.counts g.nodes.now g.operands.now T) g.kept.now c.requires.4 g.k c.requires.1 _ (sym c.in-Unknown.is ∙ c.view.ensures.value) None refl _ _ (refl, refl)
