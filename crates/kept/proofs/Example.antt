@@ -125,7 +125,7 @@ node_formed (suc zero) l = omega arith
 node_formed (suc (suc zero)) l = (omega arith, omega arith)
 node_formed (suc (suc (suc zero))) l = tt
 node_formed (suc (suc (suc (suc zero)))) l = (omega arith, omega arith)
-node_formed (suc (suc (suc (suc (suc zero))))) l = record { begins = refl; Some = omega arith; fits = omega arith; lower = (omega arith, (omega arith, tt)) }
+node_formed (suc (suc (suc (suc (suc zero))))) l = record { begins = refl; some = omega arith; fits = omega arith; lower = (omega arith, (omega arith, tt)) }
 node_formed (suc (suc (suc (suc (suc (suc k)))))) l = absurd (omega arith)
 
 root_in : (r : ℕ) → r < 2 → get_or example_tables.roots r 0 < 6

@@ -243,7 +243,7 @@ module _ (T : Tables) where
     -- a fresh evaluation's candidate has atoms alone
     no_stray : ltb (next 32 (fresh T I).candidate (atom_count T)) (32 * length (fresh T I).candidate) ≡ false
     unfolding fresh summary held next
-    no_stray = le-ltb (lowest (member 32 ws) (atom_count T) (32 * length ws - atom_count T)) (32 * length ws) (omega (arith, None))
+    no_stray = le-ltb (lowest (member 32 ws) (atom_count T) (32 * length ws - atom_count T)) (32 * length ws) (omega (arith, none))
       where
         ws : List ℕ
         ws = set_of I (atom_count T)
@@ -251,8 +251,8 @@ module _ (T : Tables) where
         room : atom_count T ≤ 32 * length ws
         room = rw (length-set_of I (atom_count T)) (omega arith)
 
-        None : 32 * length ws ≡ lowest (member 32 ws) (atom_count T) (32 * length ws - atom_count T)
-        None = lowest-only (member 32 ws) (atom_count T) (32 * length ws - atom_count T) (32 * length ws) (record {
+        none : 32 * length ws ≡ lowest (member 32 ws) (atom_count T) (32 * length ws - atom_count T)
+        none = lowest-only (member 32 ws) (atom_count T) (32 * length ws - atom_count T) (32 * length ws) (record {
           from = room;
           within = omega arith;
           before = λ k a b. member_above I (atom_count T) k a;

@@ -16,6 +16,7 @@ use Rattle.theory.specs.declared.Node.TheVariants.{Atom, False, Implies, And, Or
 use Rattle.compile.specs.Producer.{produced}
 use Rattle.compile.specs.Producers.{refused_by, supported_at, roots_supported, made_by, producers, producer_words}
 use Rattle.compile.specs.ProducersLaws.{few-producers}
+use Rattle.compile.specs.declared.Kind.TheVariants.{Normal}
 use Rattle.compile.specs.declared.Producer.{Producer}
 use Rattle.compile.proofs.RootFormula.{producer_bounded}
 use Rattle.kept.specs.Tables.{Tables, node_count, root_count, root_at, head_at, body_at, sound_node, sound}
@@ -38,7 +39,7 @@ sound-by t operands start k Unknown f = absurd f
 
 -- what stands past the last
 abbrev pub no_producer : Producer
-no_producer = record { head = 0; body = 0; root = 0; kind = 0 }
+no_producer = record { head = 0; body = 0; root = 0; kind = Normal }
 
 head_words : (ps : List Producer) (p : ℕ) → get_or (producer_words ps) (4 * p) 0 ≡ (get_or ps p no_producer).head
 unfolding producer_words
