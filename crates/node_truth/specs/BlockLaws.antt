@@ -1,11 +1,10 @@
 -- Blocks are gathered operand by operand, and passed where none decides.
 -- Assumes nothing.
 use Prim.Native.Nat.{ℕ, zero, suc, ◌+◌, ◌-◌, ◌<◌, ◌≤◌}
-use Rattle.std.proofs.Common.{arith, sym, ◌∙◌, ⊎_elim, ne_eqb}
-use Rattle.std.specs.Prelude.{◌≡◌, refl, Bool, not, List, length}
+use Rattle.std.proofs.Common.{arith, sym, ◌∙◌, ⊎_elim}
+use Rattle.std.specs.Prelude.{◌≡◌, refl, Bool, not, eqb, List, length}
 use Rattle.std.proofs.Math.Bool.{true, false}
 use Rattle.std.specs.Bool.{beq}
-use Rattle.std.specs.Int.Bits.{bit_or, or_add_and, and_le_l, and_le_r}
 use Rattle.std.proofs.Math.ListN.{get_or}
 use Rattle.base.specs.Tests.{below_or}
 use Rattle.theory.specs.Node.{span}
@@ -13,6 +12,12 @@ use Rattle.kept.specs.Seen.{group_seen}
 use Rattle.node_truth.specs.Blocks.{AllBelow, AllAre}
 use Rattle.node_truth.specs.InWords.{true_in}
 use Rattle.node_truth.specs.Turns.{group_more}
+
+unlike_is : (b t : Bool) → beq b t ≡ false → not b ≡ t
+unlike_is true true e = cc
+unlike_is true false e = refl
+unlike_is false true e = refl
+unlike_is false false e = cc
 
 module _ (operands : List ℕ) (first : ℕ) where
   pub below_none : (k : ℕ) → AllBelow operands k first first
@@ -34,19 +39,10 @@ module _ (operands : List ℕ) (first : ℕ) where
         last : i ≡ j → true_in kept (get_or operands i 0) ≡ t
         last e = rw e p
 
-    pub true_more : (j : ℕ) → AllAre operands kept true first j → (get_or kept (8 + get_or operands j 0) 0 ≡ 0 → ⊥) → AllAre operands kept true first (j + 1)
+    -- by the word of the operand
+    pub block_more : (t : Bool) (j : ℕ) → AllAre operands kept t first j → beq (eqb (get_or kept (8 + get_or operands j 0) 0) 0) t ≡ false → AllAre operands kept t first (j + 1)
     unfolding true_in
-    true_more j s p = are_more true j s (rw (ne_eqb (get_or kept (8 + get_or operands j 0) 0) 0 p))
-
-    -- the gathered words x are 0 only if every operand is false
-    pub false_more : (j x : ℕ) → (x ≡ 0 → AllAre operands kept false first j)
-        → bit_or x (get_or kept (8 + get_or operands j 0) 0) ≡ 0 → AllAre operands kept false first (j + 1)
-    unfolding true_in
-    false_more j x s z =
-        let w : ℕ = get_or kept (8 + get_or operands j 0) 0 in
-        let l : x ≡ 0 = omega (arith, or_add_and x w, and_le_r x w) in
-        let r : w ≡ 0 = omega (arith, or_add_and x w, and_le_l x w) in
-        are_more false j (s l) (rw r)
+    block_more t j s p = are_more t j s (unlike_is (eqb (get_or kept (8 + get_or operands j 0) 0) 0) t p)
 
 other : (d : Bool) → beq (not d) d ≡ false
 other true = refl

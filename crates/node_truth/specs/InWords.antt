@@ -1,16 +1,11 @@
--- What the words of a kept evaluation say of a node and of an atom, and the cases of `Seen`.
+-- What the words of a kept evaluation say of a node and of an atom.
 -- Assumes nothing.
-use Rattle.std.specs.Prelude.{ℕ, ◌+◌, ◌/◌, ◌%◌, Bool, true, false, not, cond, ◌&&◌, ◌||◌, List, eqb, ltb, leb, get_or, Option, Some, None}
+use Rattle.std.specs.Prelude.{ℕ, ◌+◌, ◌/◌, ◌%◌, Bool, not, cond, ◌&&◌, ◌||◌, List, eqb, ltb, leb, get_or, Option, Some, None}
 use Rattle.theory.specs.Node.{span}
 use Rattle.theory.specs.declared.Counts.{Counts}
 use Rattle.words.specs.Bit.{bit}
 use Rattle.kept.specs.Seen.{group_seen}
 use Rattle.kept_laws.specs.Given.{candidate_at}
-
-abbrev pub seen_of : Option Bool → Option Bool
-seen_of (Some true) = Some true
-seen_of (Some false) = Some false
-seen_of None = None
 
 -- node o is true
 unfoldable pub true_in : List ℕ → ℕ → Bool

@@ -1,29 +1,15 @@
 // The truth of a node as a check reads it, from the words of a kept evaluation: `node_truth!` of tight/evaluate.rs.
 #![tactic(auto)]
 
-ghost use Rattle.std.specs.Prelude.{◌≡◌, true, false, not, ◌+◌, ◌*◌, ◌-◌, ◌<◌, ◌≤◌, length};
+ghost use Rattle.std.specs.Prelude.{◌≡◌, true, not, ◌+◌, ◌*◌, ◌-◌, ◌<◌, ◌≤◌, length};
 ghost use Rattle.theory.specs.Limits.{Limited};
 ghost use Rattle.theory.specs.Node.{node_at, span};
 ghost use Rattle.kept.specs.Seen.{group_seen, node_seen};
 ghost use Rattle.kept_laws.specs.Given.{used_by};
-ghost use Rattle.node_truth.specs.InWords.{seen_of, true_in, present_in, atom_seen, implies_seen, span_seen};
+ghost use Rattle.node_truth.specs.InWords.{true_in, present_in, atom_seen, implies_seen, span_seen};
 ghost use Rattle.node_truth.specs.Blocks.{AllBelow, AllAre};
 
 use theory::{Counts, Node};
-
-// A node's truth. Stray: an entry met there is outside its table, or an operand is not below the node.
-#[derive(Clone, Copy)]
-pub enum Seen {
-    True,
-    False,
-    Stray,
-}
-
-fn known(holds: bool) -> Option<bool>
-    ensures { seen_of result ≡ Some holds }
-{
-    if holds { Some(true) } else { Some(false) }
-}
 
 // Whether node o is true.
 pub fn holds(kept: &[u32], o: usize) -> bool
@@ -42,7 +28,7 @@ pub fn present(counts: Counts, kept: &[u32], a: usize) -> bool
     (kept[at] >> (a % 32)) % 2 == 1
 }
 
-// And or Or: operands are met up to the first whose truth decides.
+// And or Or: operands are met up to the first whose truth decides. None, here and below: an entry met is outside its table, or an operand is not below the node.
 fn group_truth(
     operands: &[u32],
     kept: &[u32],
@@ -52,21 +38,19 @@ fn group_truth(
     decisive: bool,
 ) -> Option<bool>
     requires { (start + count ≤ length operands.now) × (8 + k ≤ length kept.now) }
-    ensures { seen_of result ≡ group_seen k (true_in kept.now) decisive (span operands.now start count) }
+    ensures { result ≡ group_seen k (true_in kept.now) decisive (span operands.now start count) }
 {
     let end = start + count;
-    let mut i = start;
-    while i < end {
+    for i in start..end {
         let o = words::word(operands, i);
         if o >= k {
             return None;
         }
         if holds(kept, o) == decisive {
-            return known(decisive);
+            return Some(decisive);
         }
-        i += 1;
     }
-    known(!decisive)
+    Some(!decisive)
 }
 
 // Whether the 16 operands from `first` on are below k.
@@ -78,44 +62,25 @@ fn block_below(operands: &[u32], k: usize, first: usize) -> bool
     // a word, as the operands are, and never more than k
     let most = (k % 4294967296) as u32;
     let mut x = 0u32;
-    let mut i = first;
-    while i < end {
+    for i in first..end {
         if operands[i] >= most {
             x = 1;
         }
-        i += 1;
     }
     x == 0
 }
 
-// Whether the 16 operands from `first` on are true.
-fn block_true(operands: &[u32], kept: &[u32], first: usize) -> bool
+// Whether the 16 operands from `first` on all have the truth `t`.
+fn block_are(operands: &[u32], kept: &[u32], first: usize, t: bool) -> bool
     requires { (first + 16 ≤ length operands.now) × AllBelow operands.now (length kept.now - 8) first (first + 16) }
-    ensures { result ≡ true → AllAre operands.now kept.now true first (first + 16) }
+    ensures { result ≡ true → AllAre operands.now kept.now t first (first + 16) }
 {
     let end = first + 16;
     let mut x = 0u32;
-    let mut i = first;
-    while i < end {
-        if kept[8 + operands[i] as usize] == 0 {
+    for i in first..end {
+        if (kept[8 + operands[i] as usize] == 0) == t {
             x = 1;
         }
-        i += 1;
-    }
-    x == 0
-}
-
-// Whether the 16 operands from `first` on are false.
-fn block_false(operands: &[u32], kept: &[u32], first: usize) -> bool
-    requires { (first + 16 ≤ length operands.now) × AllBelow operands.now (length kept.now - 8) first (first + 16) }
-    ensures { result ≡ true → AllAre operands.now kept.now false first (first + 16) }
-{
-    let end = first + 16;
-    let mut x = 0u32;
-    let mut i = first;
-    while i < end {
-        x = x | kept[8 + operands[i] as usize];
-        i += 1;
     }
     x == 0
 }
@@ -128,11 +93,7 @@ fn undecided(operands: &[u32], kept: &[u32], k: usize, first: usize, decisive: b
     if !block_below(operands, k, first) {
         return false;
     }
-    if decisive {
-        block_false(operands, kept, first)
-    } else {
-        block_true(operands, kept, first)
-    }
+    block_are(operands, kept, first, !decisive)
 }
 
 // The first operand that is not passed by blocks in which none decides.
@@ -167,28 +128,34 @@ fn large_truth(
     decisive: bool,
 ) -> Option<bool>
     requires { (start + count ≤ length operands.now) × (8 + k ≤ length kept.now) }
-    ensures { seen_of result ≡ group_seen k (true_in kept.now) decisive (span operands.now start count) }
+    ensures { result ≡ group_seen k (true_in kept.now) decisive (span operands.now start count) }
 {
     let i = skip_blocks(operands, kept, k, start, start + count, decisive);
     group_truth(operands, kept, k, i, start + count - i, decisive)
 }
 
 // And or Or of two operands: both are read, so that no branch goes by a truth, unless one is not below k.
-fn pair_truth(operands: &[u32], kept: &[u32], k: usize, start: usize, decisive: bool) -> Option<bool>
+fn pair_truth(
+    operands: &[u32],
+    kept: &[u32],
+    k: usize,
+    start: usize,
+    decisive: bool,
+) -> Option<bool>
     requires { (start + 2 ≤ length operands.now) × (8 + k ≤ length kept.now) }
-    ensures { seen_of result ≡ group_seen k (true_in kept.now) decisive (span operands.now start 2) }
+    ensures { result ≡ group_seen k (true_in kept.now) decisive (span operands.now start 2) }
 {
     let a = words::word(operands, start);
     let b = words::word(operands, start + 1);
-    if words::greater(a, b) >= k {
+    if a.max(b) >= k {
         return group_truth(operands, kept, k, start, 2, decisive);
     }
     let x = holds(kept, a);
     let y = holds(kept, b);
     if decisive {
-        return known(x || y);
+        return Some(x | y);
     }
-    known(x && y)
+    Some(x & y)
 }
 
 // The same of a span that may pass the table of `size` entries.
@@ -202,7 +169,7 @@ pub fn span_truth(
     decisive: bool,
 ) -> Option<bool>
     requires { (size ≤ length operands.now) × (start < 4294967296) × (count < 4294967296) × (8 + k ≤ length kept.now) }
-    ensures { seen_of result ≡ span_seen size k (true_in kept.now) decisive operands.now start count }
+    ensures { result ≡ span_seen size k (true_in kept.now) decisive operands.now start count }
 {
     // named again, so that the compiler hands them on by value
     let operands = &operands[..];
@@ -222,18 +189,18 @@ pub fn span_truth(
 // Atom a.
 pub fn atom_truth(counts: Counts, kept: &[u32], a: usize) -> Option<bool>
     requires { Limited counts × (used_by counts ≤ length kept.now) }
-    ensures { seen_of result ≡ atom_seen counts kept.now a }
+    ensures { result ≡ atom_seen counts kept.now a }
 {
     if a >= counts.atoms {
         return None;
     }
-    known(present(counts, kept, a))
+    Some(present(counts, kept, a))
 }
 
 // Implies of left and right, at node k.
 pub fn implies_truth(kept: &[u32], k: usize, left: usize, right: usize) -> Option<bool>
     requires { 8 + k ≤ length kept.now }
-    ensures { seen_of result ≡ implies_seen k (true_in kept.now) left right }
+    ensures { result ≡ implies_seen k (true_in kept.now) left right }
 {
     if left >= k {
         return None;
@@ -244,13 +211,19 @@ pub fn implies_truth(kept: &[u32], k: usize, left: usize, right: usize) -> Optio
     // both are read, so that no branch goes by a truth
     let l = holds(kept, left);
     let r = holds(kept, right);
-    known(!l || r)
+    Some(!l | r)
 }
 
 // Node k.
-pub fn node_truth(counts: Counts, nodes: &[u32], operands: &[u32], kept: &[u32], k: usize) -> Option<bool>
+pub fn node_truth(
+    counts: Counts,
+    nodes: &[u32],
+    operands: &[u32],
+    kept: &[u32],
+    k: usize,
+) -> Option<bool>
     requires { Limited counts × (k < counts.nodes) × (3 * counts.nodes ≤ length nodes.now) × (counts.operands ≤ length operands.now) × (used_by counts ≤ length kept.now) }
-    ensures { seen_of result ≡ node_seen counts operands.now (present_in counts kept.now) (true_in kept.now) k (node_at nodes.now k) }
+    ensures { result ≡ node_seen counts operands.now (present_in counts kept.now) (true_in kept.now) k (node_at nodes.now k) }
 {
     // the kind that is met most, by one comparison
     if nodes[3 * k] == 2 {

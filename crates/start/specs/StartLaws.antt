@@ -172,10 +172,10 @@ module _ (T : Tables) (new : List ℕ) (ws : List ℕ) where
 
     -- up to pair `first` all words are the same
     pub starting_first : (first : ℕ) → ((i : ℕ) → i < 2 * first → i < words32 (atom_count T) → Same (candidate_start T) ws new i) → Starting ws first
-    starting_first first alike = starting_skip ws 0 first (omega arith) None (λ a b c. same_place a (alike (a / 32) (omega arith)))
+    starting_first first alike = starting_skip ws 0 first (omega arith) none (λ a b c. same_place a (alike (a / 32) (omega arith)))
       where
-        None : Starting ws 0
-        None =
+        none : Starting ws 0
+        none =
             record {
               onward = onward_first T ws whole room (all_turned T J (later 0) e)
                   (ap (λ xs. all_turned T J xs e) all_later ∙ sym (start_changed T J e (fits_of T ws room)));
@@ -194,9 +194,9 @@ module _ (T : Tables) (new : List ℕ) (ws : List ℕ) where
       -- from pair `end` on all words are the same
       pub starting_done : (end : ℕ) → end ≤ p → ((i : ℕ) → 2 * end ≤ i → i < words32 (atom_count T) → Same (candidate_start T) ws new i) → Wrote T ws whole true mid
       starting_done end l alike =
-          let None : later p ≡ [] = none_later p (λ a b. same_place a (alike (a / 32) (omega arith))) in
+          let none : later p ≡ [] = none_later p (λ a b. same_place a (alike (a / 32) (omega arith))) in
           onward_done T ws whole room mid (all_turned T J (later p) (of_words T mid)) s.onward
-          (ap (λ xs. all_turned T J xs (of_words T mid)) None ∙ turned_none T J (of_words T mid))
+          (ap (λ xs. all_turned T J xs (of_words T mid)) none ∙ turned_none T J (of_words T mid))
 
       middle : used T ≤ length mid
       middle = onward-room T ws whole room mid (all_turned T J (later p) (of_words T mid)) s.onward

@@ -8,4 +8,4 @@ returns-then-a-counts c = rw (le-ltb _ _ c.if-a-counts.true)
 
 pub returns : goal.returns
 unfolding atom_seen
-returns c = rw (lt-ltb _ _ c.if-a-counts.false, ← c.present.ensures) c.known.ensures
+returns c = rw (lt-ltb _ _ c.if-a-counts.false, ← c.present.ensures)

@@ -7,6 +7,3 @@ use Rattle.node_truth.proofs.group_truth.Given as goal
 
 abbrev pub invariant-loop-i : goal.invariant-loop-i
 invariant-loop-i l = (l.i ≤ l.end) × (l.end ≡ l.start + l.count) × (group_seen l.k (true_in l.kept) l.decisive (span l.operands l.start l.count) ≡ group_seen l.k (true_in l.kept) l.decisive (span l.operands l.i (l.end - l.i)))
-
-abbrev pub decreases-loop-i : goal.decreases-loop-i
-decreases-loop-i l = l.end - l.i
