@@ -1,7 +1,8 @@
 -- What a call leaves in the lent words of a kept evaluation: the evaluation that a definition gives, or after a 17 anything in the used words.
 -- Assumes nothing.
-use Rattle.std.specs.Prelude.{ℕ, ◌≤◌, ◌≡◌, refl, Bool, true, false, List, length, drop, Option, Some, None}
-use Rattle.std.proofs.Common.{ap, sym, ◌∙◌, true≢false}
+use Rattle.std.specs.Prelude.{ℕ, ◌≤◌, ◌≡◌, refl, List, length, drop, Result, Ok, Err, Option, Some, None}
+use Rattle.std.proofs.Common.{ap, sym, ◌∙◌}
+use Rattle.kept_laws.specs.declared.OutOfRange.{OutOfRange}
 use Rattle.kept.specs.Tables.{Tables}
 use Rattle.kept.specs.Evaluation.{Evaluation}
 use Rattle.kept.specs.Layout.{of_words, written, used}
@@ -13,10 +14,23 @@ pub record Beside (T : Tables) (ws after : List ℕ) : Type 0 where
   pub long : length after ≡ length ws
   pub behind : drop (used T) after ≡ drop (used T) ws
 
+-- what a change answers
+abbrev pub Changing : Type 0
+Changing = Result (Unit {0}) OutOfRange
+
+abbrev pub done : Changing
+done = Ok tt
+
+abbrev pub out_of_range : Changing
+out_of_range = Err (record {})
+
 -- ok tells whether there is an evaluation
-abbrev pub Wrote : Tables → List ℕ → Option Evaluation → Bool → List ℕ → Type 0
-Wrote T ws None ok after = (ok ≡ false) × Beside T ws after
-Wrote T ws (Some e) ok after = (ok ≡ true) × (after ≡ written T ws e)
+abbrev pub Wrote : Tables → List ℕ → Option Evaluation → Changing → List ℕ → Type 0
+Wrote T ws None ok after = (ok ≡ out_of_range) × Beside T ws after
+Wrote T ws (Some e) ok after = (ok ≡ done) × (after ≡ written T ws e)
+
+not_both : out_of_range ≡ done → ⊥
+not_both e = cc
 
 pub beside_same : (T : Tables) (ws : List ℕ) → Beside T ws ws
 beside_same T ws = record { long = refl; behind = refl }
@@ -29,29 +43,29 @@ beside_written T ws e l f = record { long = length-written T ws l e f; behind = 
 
 module _ (T : Tables) (ws : List ℕ) (o : Option Evaluation) (after : List ℕ) where
   -- to tell that it was written, or that it was a 17
-  pub wrote_some : (e : Evaluation) → o ≡ Some e → after ≡ written T ws e → Wrote T ws o true after
+  pub wrote_some : (e : Evaluation) → o ≡ Some e → after ≡ written T ws e → Wrote T ws o done after
   wrote_some e p q = rw p (refl, q)
 
-  pub wrote_none : o ≡ None → Beside T ws after → Wrote T ws o false after
+  pub wrote_none : o ≡ None → Beside T ws after → Wrote T ws o out_of_range after
   wrote_none p q = rw p (refl, q)
 
   -- and what a caller learns from it
-  pub wrote_true : (ok : Bool) → Wrote T ws o ok after → ok ≡ true → (e : Evaluation) × (o ≡ Some e) × (after ≡ written T ws e)
-  wrote_true ok w p = go o refl w
+  pub wrote_done : (ok : Changing) → Wrote T ws o ok after → ok ≡ done → (e : Evaluation) × (o ≡ Some e) × (after ≡ written T ws e)
+  wrote_done ok w p = go o refl w
     where
       go : (x : Option Evaluation) → o ≡ x → Wrote T ws x ok after → (e : Evaluation) × (o ≡ Some e) × (after ≡ written T ws e)
-      go None q h = absurd (true≢false (sym p ∙ h.0))
+      go None q h = absurd (not_both (sym h.0 ∙ p))
       go (Some e) q h = (e, q, h.1)
 
-  pub wrote_false : (ok : Bool) → Wrote T ws o ok after → ok ≡ false → (o ≡ None) × Beside T ws after
-  wrote_false ok w p = go o refl w
+  pub wrote_out_of_range : (ok : Changing) → Wrote T ws o ok after → ok ≡ out_of_range → (o ≡ None) × Beside T ws after
+  wrote_out_of_range ok w p = go o refl w
     where
       go : (x : Option Evaluation) → o ≡ x → Wrote T ws x ok after → (o ≡ None) × Beside T ws after
       go None q h = (q, h.1)
-      go (Some e) q h = absurd (true≢false (sym h.0 ∙ p))
+      go (Some e) q h = absurd (not_both (sym p ∙ h.0))
 
 -- nothing to do
-pub wrote_same : (T : Tables) (ws : List ℕ) → used T ≤ length ws → Wrote T ws (Some (of_words T ws)) true ws
+pub wrote_same : (T : Tables) (ws : List ℕ) → used T ≤ length ws → Wrote T ws (Some (of_words T ws)) done ws
 wrote_same T ws l = (refl, sym (written_same T ws l))
 
 -- two calls, the second on what the first wrote
@@ -62,6 +76,6 @@ module _ (T : Tables) (ws mid : List ℕ) (e : Evaluation) (l : used T ≤ lengt
   pub mid_long : length mid ≡ length ws
   mid_long = ap length w ∙ length-written T ws l e f
 
-  pub wrote_then : (o : Option Evaluation) (ok : Bool) (after : List ℕ) → Wrote T mid o ok after → Wrote T ws o ok after
+  pub wrote_then : (o : Option Evaluation) (ok : Changing) (after : List ℕ) → Wrote T mid o ok after → Wrote T ws o ok after
   wrote_then None ok after h = (h.0, beside_then T ws mid after (rw w (beside_written T ws e l f)) h.1)
   wrote_then (Some d) ok after h = (h.0, h.1 ∙ ap (λ x. written T x d) w ∙ written_again T ws l e f d)

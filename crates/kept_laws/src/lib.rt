@@ -7,6 +7,10 @@ ghost use Rattle.kept_laws.specs.Given.{support_at, candidate_at, missing_at, fa
 
 use theory::Counts;
 
+// A count or an entry that was met is out of its range: refusal 17, whose place the caller knows.
+#[derive(Clone, Copy)]
+pub struct OutOfRange;
+
 pub fn support_at(counts: Counts) -> usize
     requires { Limited counts }
     ensures { result ≡ support_at counts }

@@ -5,6 +5,7 @@ use Rattle.std.specs.Int.Bits.{bit_or, bit_xor}
 use Rattle.words.specs.Bit.{bit}
 use Rattle.words.specs.Changed.{unlike}
 use Rattle.kept.specs.CountedSet.{and_then, moved}
+use Rattle.kept_laws.specs.Wrote.{Changing, done, out_of_range}
 
 -- digit k of the word set or not
 abbrev pub digit_put : ℕ → ℕ → Bool → ℕ
@@ -20,7 +21,7 @@ unfoldable pub member_put : ℕ → ℕ → ℕ → ℕ → Bool → List ℕ �
 member_put at size most i x ws =
     cond (unlike (bit (get_or ws (at + i / 32) 0) (i % 32)) x) (and_then (moved most x (get_or ws size 0)) (λ n. Some (set (bit_put at i x ws) size n))) (Some ws)
 
--- a call left these words, and told so; or it left them as they were
-abbrev pub Put : List ℕ → Option (List ℕ) → Bool → List ℕ → Type 0
-Put ws None ok after = (ok ≡ false) × (after ≡ ws)
-Put ws (Some w) ok after = (ok ≡ true) × (after ≡ w)
+-- a call left these words, and said so; or it left them as they were
+abbrev pub Put : List ℕ → Option (List ℕ) → Changing → List ℕ → Type 0
+Put ws None ok after = (ok ≡ out_of_range) × (after ≡ ws)
+Put ws (Some w) ok after = (ok ≡ done) × (after ≡ w)

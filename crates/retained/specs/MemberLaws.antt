@@ -24,7 +24,7 @@ use Rattle.kept_laws.specs.Stores.{with_members}
 use Rattle.kept_laws.specs.Exits.{moved_up, moved_full, moved_down, moved_empty}
 use Rattle.kept_laws.specs.FitsLaws.{roots_fit}
 use Rattle.kept_laws.specs.Written.{written_same, put_missing, put_missing_size, put-false_roots, put-false_roots-size, get_missing, get_missing_size, get-false_roots, get-false_roots-size}
-use Rattle.kept_laws.specs.Wrote.{Wrote, beside_same}
+use Rattle.kept_laws.specs.Wrote.{Wrote, beside_same, Changing, done, out_of_range}
 use Rattle.retained.specs.Member.{digit_put, bit_put, member_put, Put}
 use Rattle.retained.specs.Changes.{missing_turned}
 
@@ -35,16 +35,16 @@ module _ (at size most i : ℕ) (x : Bool) (ws : List ℕ) where
   digit = bit (get_or ws (at + i / 32) 0) (i % 32)
 
   -- it is so already
-  pub put_stays : digit ≡ x → Put ws (member_put at size most i x ws) true ws
+  pub put_stays : digit ≡ x → Put ws (member_put at size most i x ws) done ws
   unfolding member_put
   put_stays e = rw (unlike_same digit x e) (refl, refl)
 
   -- its count would leave its range
-  pub put_astray : unlike digit x ≡ true → moved most x (get_or ws size 0) ≡ None → Put ws (member_put at size most i x ws) false ws
+  pub put_astray : unlike digit x ≡ true → moved most x (get_or ws size 0) ≡ None → Put ws (member_put at size most i x ws) out_of_range ws
   unfolding member_put
   put_astray e m = rw (e, m) (refl, refl)
 
-  pub put_done : (n : ℕ) → unlike digit x ≡ true → moved most x (get_or ws size 0) ≡ Some n → Put ws (member_put at size most i x ws) true (set (bit_put at i x ws) size n)
+  pub put_done : (n : ℕ) → unlike digit x ≡ true → moved most x (get_or ws size 0) ≡ Some n → Put ws (member_put at size most i x ws) done (set (bit_put at i x ws) size n)
   unfolding member_put
   put_done n e m = rw (e, m) (refl, refl)
 
@@ -73,24 +73,24 @@ module _ (at i : ℕ) (ws : List ℕ) where
     unfolding bit
     is_not e = ne_eqb (word / 2 ^ (i % 32) % 2) 1 e
 
-    pub include_stays : word / 2 ^ (i % 32) % 2 ≡ 1 → Put ws (member_put at size most i true ws) true ws
+    pub include_stays : word / 2 ^ (i % 32) % 2 ≡ 1 → Put ws (member_put at size most i true ws) done ws
     include_stays e = put_stays at size most i true ws (is e)
 
-    pub include_full : (word / 2 ^ (i % 32) % 2 ≡ 1 → ⊥) → most ≤ get_or ws size 0 → Put ws (member_put at size most i true ws) false ws
+    pub include_full : (word / 2 ^ (i % 32) % 2 ≡ 1 → ⊥) → most ≤ get_or ws size 0 → Put ws (member_put at size most i true ws) out_of_range ws
     include_full e l = put_astray at size most i true ws (rw (is_not e)) (moved_full most (get_or ws size 0) l)
 
     pub include_done : (word / 2 ^ (i % 32) % 2 ≡ 1 → ⊥) → get_or ws size 0 < most
-        → Put ws (member_put at size most i true ws) true (set (set ws (at + i / 32) (bit_or word mask)) size (get_or ws size 0 + 1))
+        → Put ws (member_put at size most i true ws) done (set (set ws (at + i / 32) (bit_or word mask)) size (get_or ws size 0 + 1))
     include_done e l = rw mark_in (put_done at size most i true ws (get_or ws size 0 + 1) (rw (is_not e)) (moved_up most (get_or ws size 0) l))
 
-    pub exclude_stays : (word / 2 ^ (i % 32) % 2 ≡ 1 → ⊥) → Put ws (member_put at size most i false ws) true ws
+    pub exclude_stays : (word / 2 ^ (i % 32) % 2 ≡ 1 → ⊥) → Put ws (member_put at size most i false ws) done ws
     exclude_stays e = put_stays at size most i false ws (is_not e)
 
-    pub exclude_none : word / 2 ^ (i % 32) % 2 ≡ 1 → get_or ws size 0 ≡ 0 → Put ws (member_put at size most i false ws) false ws
+    pub exclude_none : word / 2 ^ (i % 32) % 2 ≡ 1 → get_or ws size 0 ≡ 0 → Put ws (member_put at size most i false ws) out_of_range ws
     exclude_none e z = put_astray at size most i false ws (rw (is e)) (rw z (moved_empty most))
 
     pub exclude_done : word / 2 ^ (i % 32) % 2 ≡ 1 → 0 < get_or ws size 0
-        → Put ws (member_put at size most i false ws) true (set (set ws (at + i / 32) (bit_xor (bit_or word mask) mask)) size (get_or ws size 0 - 1))
+        → Put ws (member_put at size most i false ws) done (set (set ws (at + i / 32) (bit_xor (bit_or word mask) mask)) size (get_or ws size 0 - 1))
     exclude_done e l = rw mark_out (put_done at size most i false ws (get_or ws size 0 - 1) (rw (is e)) (moved_down most (get_or ws size 0) l))
 
 -- ---- a section
@@ -106,7 +106,7 @@ module _ (T : Tables) (ws : List ℕ) (at size n : ℕ) (s : CountedSet) (build 
   turned : Option CountedSet → Option Evaluation
   turned o = and_then o (λ w. Some (build w))
 
-  pub put_wrote : (ok : Bool) (after : List ℕ) → Put ws (member_put at size n i x ws) ok after → Wrote T ws (and_then (with_member n s i x) (λ w. Some (build w))) ok after
+  pub put_wrote : (ok : Changing) (after : List ℕ) → Put ws (member_put at size n i x ws) ok after → Wrote T ws (and_then (with_member n s i x) (λ w. Some (build w))) ok after
   unfolding member_put with_member member bit_put
   put_wrote ok after h = go (unlike (bit (get_or s.members (i / 32) 0) (i % 32)) x) (moved n x s.size) (rw (word, number) at h)
     where
@@ -128,7 +128,7 @@ module _ (T : Tables) (ws : List ℕ) (long : used T ≤ length ws) where
   fits : Fits T e
   fits = fits_of T ws long
 
-  pub missing_wrote : (a : ℕ) (x : Bool) → a < atom_count T → (ok : Bool) (after : List ℕ) → Put ws (member_put (missing_start T) 2 (atom_count T) a x ws) ok after → Wrote T ws (missing_turned T a x e) ok after
+  pub missing_wrote : (a : ℕ) (x : Bool) → a < atom_count T → (ok : Changing) (after : List ℕ) → Put ws (member_put (missing_start T) 2 (atom_count T) a x ws) ok after → Wrote T ws (missing_turned T a x e) ok after
   unfolding missing_turned
   missing_wrote i x l =
       put_wrote T ws (missing_start T) 2 (atom_count T) e.missing (with_support e e.support) (written_same T ws long) i x (get_missing T ws long (i / 32) (omega arith)) (get_missing_size T ws)
@@ -146,7 +146,7 @@ module _ (T : Tables) (ws : List ℕ) (long : used T ≤ length ws) where
         groups = fits.groups;
       }) m)
 
-  pub root_wrote : (r : ℕ) (t : Bool) → r < root_count T → (ok : Bool) (after : List ℕ) → Put ws (member_put (false_roots_start T) 3 (root_count T) r (not t) ws) ok after → Wrote T ws (root_turned T t r e) ok after
+  pub root_wrote : (r : ℕ) (t : Bool) → r < root_count T → (ok : Changing) (after : List ℕ) → Put ws (member_put (false_roots_start T) 3 (root_count T) r (not t) ws) ok after → Wrote T ws (root_turned T t r e) ok after
   unfolding root_turned
   root_wrote i t l =
       put_wrote T ws (false_roots_start T) 3 (root_count T) e.false_roots (with_false_roots e) (written_same T ws long) i (not t) (get-false_roots T ws long (i / 32) (omega arith)) (get-false_roots-size T ws)

@@ -12,7 +12,7 @@ use Rattle.kept.specs.LayoutLaws.{Fits}
 use Rattle.kept_laws.specs.OptionLaws.{some_is, then_some}
 use Rattle.kept_laws.specs.FitsLaws.{length_members}
 use Rattle.kept_laws.specs.Written.{get_support}
-use Rattle.kept_laws.specs.Wrote.{Wrote}
+use Rattle.kept_laws.specs.Wrote.{Wrote, Changing}
 use Rattle.retained.specs.Changes.{missing_turned, presence_turned}
 
 module _ (T : Tables) where
@@ -54,7 +54,7 @@ module _ (T : Tables) where
     pub lacking_out : (lacking : Bool) → x ≡ false → lacking ≡ x → lacking ≡ x && eqb (get_or e.support a 0) 0
     lacking_out lacking p q = q ∙ p ∙ ap (λ b. b && eqb (get_or e.support a 0) 0) (sym p)
 
-    pub presence_is : (lacking ok : Bool) (after : List ℕ) → lacking ≡ x && eqb (get_or e.support a 0) 0 → Wrote T ws (missing_turned T a lacking e) ok after
+    pub presence_is : (lacking : Bool) (ok : Changing) (after : List ℕ) → lacking ≡ x && eqb (get_or e.support a 0) 0 → Wrote T ws (missing_turned T a lacking e) ok after
         → Wrote T ws (presence_turned T a x e) ok after
     unfolding presence_turned
     presence_is lacking ok after q w = rw (sym q) w

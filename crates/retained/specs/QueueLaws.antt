@@ -28,7 +28,7 @@ use Rattle.kept_laws.specs.OptionLaws.{some_is, then_some}
 use Rattle.kept_laws.specs.Stores.{with_members, with_others, with_groups}
 use Rattle.kept_laws.specs.FitsLaws.{worklist_fits, length_members, behind_is}
 use Rattle.kept_laws.specs.Written.{written_same, of_written, length-written, put_worklist, put_worklist_size, put_first, put_far, put_groups, get_worklist, get_worklist_size, get_first, get_far, get_far_size, get_groups, part_groups}
-use Rattle.kept_laws.specs.Wrote.{Wrote, beside_same, beside_written, wrote_some, wrote_none, wrote_true, wrote_false, wrote_then, mid_holds}
+use Rattle.kept_laws.specs.Wrote.{Wrote, beside_same, beside_written, wrote_some, wrote_none, wrote_done, wrote_out_of_range, wrote_then, mid_holds, Changing, done, out_of_range}
 use Rattle.retained.specs.Member.{digit_put, bit_put, member_put, Put}
 use Rattle.retained.specs.MemberLaws.{put_wrote}
 use Rattle.retained.specs.Changes.{waiting, put_behind, other_behind, advanced_to, drained, dequeued}
@@ -82,7 +82,7 @@ module _ (T : Tables) (ws : List ℕ) (long : used T ≤ length ws) where
   others_fit : (o : CountedSet) → length o.members ≡ length w.others.members → Fits T (put o)
   others_fit o h = worklist_fits T e (with_others w o) (record { members = h; groups = refl }) fits
 
-  others_wrote : (m : ℕ) → m < node_count T → (ok : Bool) (after : List ℕ) → Put ws (member_put (worklist_start T) 4 (node_count T) m true ws) ok after
+  others_wrote : (m : ℕ) → m < node_count T → (ok : Changing) (after : List ℕ) → Put ws (member_put (worklist_start T) 4 (node_count T) m true ws) ok after
       → Wrote T ws (and_then (with_member (node_count T) w.others m true) (λ o. Some (put o))) ok after
   others_wrote m l =
       put_wrote T ws (worklist_start T) 4 (node_count T) w.others put (written_same T ws long) m true (get_worklist T ws long (m / 32) (omega arith)) (get_worklist_size T ws)
@@ -92,27 +92,27 @@ module _ (T : Tables) (ws : List ℕ) (long : used T ≤ length ws) where
       ∙ put_worklist_size T ws long (put (with_members w.others (set w.others.members (m / 32) v)))
       (others_fit (with_members w.others (set w.others.members (m / 32) v)) (length-set w.others.members (m / 32) v)) n)
 
-  module _ (m : ℕ) (l : m < node_count T) (ok : Bool) (mid : List ℕ) (h : Put ws (member_put (worklist_start T) 4 (node_count T) m true ws) ok mid) where
+  module _ (m : ℕ) (l : m < node_count T) (ok : Changing) (mid : List ℕ) (h : Put ws (member_put (worklist_start T) 4 (node_count T) m true ws) ok mid) where
     abbrev others : Option CountedSet
     others = with_member (node_count T) w.others m true
 
     grouped : CountedSet → Worklist
     grouped o = record { first = w.first; far = w.far; far_size = w.far_size; others = o; groups = inserted 32 w.groups (m / 32) }
 
-    pub wait_done : ok ≡ true → Wrote T ws (waiting T m e) true (bit_put (groups_start T) (m / 32) true mid)
+    pub wait_done : ok ≡ done → Wrote T ws (waiting T m e) done (bit_put (groups_start T) (m / 32) true mid)
     unfolding waiting behind with_bit grouped
     wait_done p =
-        let r = wrote_true T ws (and_then others (λ o. Some (put o))) mid ok (others_wrote m l ok mid h) p in
+        let r = wrote_done T ws (and_then others (λ o. Some (put o))) mid ok (others_wrote m l ok mid h) p in
         let t = then_some others (λ o. Some (put o)) r.0 r.1 in
         let q : mid ≡ written T ws (put t.0) = r.2 ∙ ap (written T ws) (sym (some_is (put t.0) r.0 t.2)) in
         wrote_some T ws (waiting T m e) (bit_put (groups_start T) (m / 32) true mid) (with_worklist e (grouped t.0))
         (ap (λ o. and_then (and_then o (λ o. Some (grouped o))) (λ v. Some (with_worklist e v))) t.1)
         (ap (bit_put (groups_start T) (m / 32) true) q ∙ group_stored (m / 32) (omega arith) true (put t.0) (others_fit t.0 (length_members (node_count T) w.others m true t.0 t.1)))
 
-    pub wait_none : ok ≡ false → Wrote T ws (waiting T m e) false mid
+    pub wait_none : ok ≡ out_of_range → Wrote T ws (waiting T m e) out_of_range mid
     unfolding waiting behind
     wait_none p =
-        let r = wrote_false T ws (and_then others (λ o. Some (put o))) mid ok (others_wrote m l ok mid h) p in
+        let r = wrote_out_of_range T ws (and_then others (λ o. Some (put o))) mid ok (others_wrote m l ok mid h) p in
         wrote_none T ws (waiting T m e) mid (rw (not_then others r.0)) r.1
       where
         not_then : (o : Option CountedSet) → and_then o (λ o. Some (put o)) ≡ None → o ≡ None
@@ -121,35 +121,35 @@ module _ (T : Tables) (ws : List ℕ) (long : used T ≤ length ws) where
 
   -- ---- one of the two behind the other
 
-  module _ (m o : ℕ) (ok : Bool) (mid : List ℕ) (h : Wrote T ws (waiting T o e) ok mid) where
-    put_none : ok ≡ false → put_behind T o e ≡ None
+  module _ (m o : ℕ) (ok : Changing) (mid : List ℕ) (h : Wrote T ws (waiting T o e) ok mid) where
+    put_none : ok ≡ out_of_range → put_behind T o e ≡ None
     unfolding waiting put_behind
-    put_none p = not_then (behind (node_count T) w o) (wrote_false T ws (waiting T o e) mid ok h p).0
+    put_none p = not_then (behind (node_count T) w o) (wrote_out_of_range T ws (waiting T o e) mid ok h p).0
       where
         not_then : (v : Option Worklist) → and_then v (λ v. Some (with_worklist e v)) ≡ None
             → and_then (and_then v (λ v. Some (remembering o v))) (λ v. Some (with_worklist e v)) ≡ None
         not_then None q = refl
         not_then (Some v) q = let z : ◌≡◌ {A = ℕ} 0 1 = cc in absurd (omega arith)
 
-    pub put_behind_none : ok ≡ false → Wrote T ws (other_behind T m o e) false mid
+    pub put_behind_none : ok ≡ out_of_range → Wrote T ws (other_behind T m o e) out_of_range mid
     unfolding other_behind
     put_behind_none p =
-        let r = wrote_false T ws (waiting T o e) mid ok h p in
+        let r = wrote_out_of_range T ws (waiting T o e) mid ok h p in
         wrote_none T ws (other_behind T m o e) mid (go (eqb o m) refl) r.1
       where
         go : (b : Bool) → eqb o m ≡ b → cond b (waiting T m e) (put_behind T o e) ≡ None
-        go true i = ap (λ x. waiting T x e) (sym (eqb-true o m i)) ∙ (wrote_false T ws (waiting T o e) mid ok h p).0
+        go true i = ap (λ x. waiting T x e) (sym (eqb-true o m i)) ∙ (wrote_out_of_range T ws (waiting T o e) mid ok h p).0
         go false i = put_none p
 
-    pub put_behind_same : ok ≡ true → o ≡ m → Wrote T ws (other_behind T m o e) true mid
+    pub put_behind_same : ok ≡ done → o ≡ m → Wrote T ws (other_behind T m o e) done mid
     unfolding other_behind
     put_behind_same p i = rw (eq-eqb o m i) (rw (p, i) at h)
 
-    module _ (p : ok ≡ true) (ne : o ≡ m → ⊥) where
+    module _ (p : ok ≡ done) (ne : o ≡ m → ⊥) where
       waited : (v : Worklist) × (behind (node_count T) w o ≡ Some v) × (mid ≡ written T ws (with_worklist e v))
       unfolding waiting
       waited =
-          let r = wrote_true T ws (waiting T o e) mid ok h p in
+          let r = wrote_done T ws (waiting T o e) mid ok h p in
           let t = then_some (behind (node_count T) w o) (λ v. Some (with_worklist e v)) r.0 r.1 in
           (t.0, t.1, r.2 ∙ ap (written T ws) (sym (some_is (with_worklist e t.0) r.0 t.2)))
 
@@ -169,11 +169,11 @@ module _ (T : Tables) (ws : List ℕ) (long : used T ≤ length ws) where
       far_is : get_or mid 6 0 ≡ v.far
       far_is = get_far T mid ∙ ap (λ d. d.worklist.far) holds
 
-      pub put_behind_far : o < get_or mid 6 0 → Wrote T ws (other_behind T m o e) true mid
+      pub put_behind_far : o < get_or mid 6 0 → Wrote T ws (other_behind T m o e) done mid
       unfolding remembering
       put_behind_far l = wrote_some T ws (other_behind T m o e) mid (with_worklist e v) (remembered v (rw (lt-ltb o v.far (rw far_is at l)))) waited.2
 
-      pub put_behind_done : get_or mid 6 0 ≤ o → Wrote T ws (other_behind T m o e) true (set (set mid 6 o) 7 (get_or (set mid 6 o) 4 0))
+      pub put_behind_done : get_or mid 6 0 ≤ o → Wrote T ws (other_behind T m o e) done (set (set mid 6 o) 7 (get_or (set mid 6 o) 4 0))
       unfolding remembering
       put_behind_done l =
           let size : get_or (set mid 6 o) 4 0 ≡ v.others.size =
@@ -184,11 +184,11 @@ module _ (T : Tables) (ws : List ℕ) (long : used T ≤ length ws) where
 
   -- ---- a node enters
 
-  queue_behind : (m : ℕ) (ok : Bool) (after : List ℕ) → get_or ws 5 0 < m → Wrote T ws (waiting T m e) ok after → Wrote T ws (entered T m e) ok after
+  queue_behind : (m : ℕ) (ok : Changing) (after : List ℕ) → get_or ws 5 0 < m → Wrote T ws (waiting T m e) ok after → Wrote T ws (entered T m e) ok after
   unfolding entered with_node waiting
   queue_behind m ok after l h = rw (lt-ltb w.first m (rw (get_first T ws) at l)) h
 
-  pub queue_same : (m : ℕ) → m ≡ get_or ws 5 0 → Wrote T ws (entered T m e) true ws
+  pub queue_same : (m : ℕ) → m ≡ get_or ws 5 0 → Wrote T ws (entered T m e) done ws
   unfolding entered with_node
   queue_same m p = wrote_some T ws (entered T m e) ws e (ap (λ x. and_then x (λ v. Some (with_worklist e v))) (same (p ∙ get_first T ws))) (sym (written_same T ws long))
     where
@@ -216,7 +216,7 @@ module _ (T : Tables) (ws : List ℕ) (long : used T ≤ length ws) where
         ∙ ap (λ b. cond b (before (node_count T) w m) (alone (node_count T) w m)) (le-ltb w.first (node_count T) n)
 
     -- none waited, or the first points past the nodes
-    queue_first : node_count T ≤ get_or ws 5 0 → Wrote T ws (entered T m e) (eqb (get_or ws 5 0) (node_count T)) (set ws 5 m)
+    queue_first : node_count T ≤ get_or ws 5 0 → Wrote T ws (entered T m e) (cond (eqb (get_or ws 5 0) (node_count T)) done out_of_range) (set ws 5 m)
     unfolding entered alone
     queue_first n = go (eqb (get_or ws 5 0) (node_count T)) refl
       where
@@ -225,13 +225,13 @@ module _ (T : Tables) (ws : List ℕ) (long : used T ≤ length ws) where
             ap (λ x. and_then x (λ v. Some (with_worklist e v)))
             (comes_first (rw (get_first T ws) at n) ∙ ap (λ c. cond c (Some (with_first w m)) None) (ap (λ x. eqb x (node_count T)) (sym (get_first T ws)) ∙ p))
 
-        go : (b : Bool) → eqb (get_or ws 5 0) (node_count T) ≡ b → Wrote T ws (entered T m e) b (set ws 5 m)
+        go : (b : Bool) → eqb (get_or ws 5 0) (node_count T) ≡ b → Wrote T ws (entered T m e) (cond b done out_of_range) (set ws 5 m)
         go true p = wrote_some T ws (entered T m e) (set ws 5 m) (with_worklist e (with_first w m)) (found true p) (first_stored m)
         go false p =
             wrote_none T ws (entered T m e) (set ws 5 m) (found false p)
             (rw (first_stored m) (beside_written T ws (with_worklist e (with_first w m)) long (first_fits m)))
 
-    queue_lower : (ok : Bool) (after : List ℕ) → get_or ws 5 0 < node_count T
+    queue_lower : (ok : Changing) (after : List ℕ) → get_or ws 5 0 < node_count T
         → Wrote T (set ws 5 m) (put_behind T (get_or ws 5 0) (of_words T (set ws 5 m))) ok after → Wrote T ws (entered T m e) ok after
     unfolding entered with_node before put_behind
     queue_lower ok after n h =
@@ -243,11 +243,15 @@ module _ (T : Tables) (ws : List ℕ) (long : used T ≤ length ws) where
         (rw s at g)
 
   module _ (m first : ℕ) (is : first ≡ get_or ws 5 0) where
-    pub queue_alone : m < first → node_count T ≤ first → Wrote T ws (entered T m e) (eqb first (node_count T)) (set ws 5 m)
-    queue_alone l n = rw is (queue_first m (omega (arith, is)) (omega (arith, is)))
+    -- the first was at the number of nodes, or above it
+    pub queue_alone : m < first → first ≡ node_count T → Wrote T ws (entered T m e) done (set ws 5 m)
+    queue_alone l n = rw (eq-eqb (get_or ws 5 0) (node_count T) (sym is ∙ n)) at (queue_first m (omega (arith, is)) (omega (arith, is, n)))
+
+    pub queue_astray : m < first → node_count T ≤ first → (first ≡ node_count T → ⊥) → Wrote T ws (entered T m e) out_of_range (set ws 5 m)
+    queue_astray l n ne = rw (ne_eqb (get_or ws 5 0) (node_count T) (λ z. ne (is ∙ z))) at (queue_first m (omega (arith, is)) (omega (arith, is)))
 
     -- the other of the two goes on
-    module _ (other : ℕ) (mid : List ℕ) (ok : Bool) (after : List ℕ) (h : Wrote T mid (other_behind T m other (of_words T mid)) ok after) where
+    module _ (other : ℕ) (mid : List ℕ) (ok : Changing) (after : List ℕ) (h : Wrote T mid (other_behind T m other (of_words T mid)) ok after) where
       pub queue_before : m < first → first < node_count T → mid ≡ set ws 5 m → other ≡ first → Wrote T ws (entered T m e) ok after
       unfolding other_behind
       queue_before l n p q =
@@ -263,21 +267,19 @@ module _ (T : Tables) (ws : List ℕ) (long : used T ≤ length ws) where
   far_size_is : get_or (set ws 5 (node_count T)) 7 0 ≡ w.far_size
   far_size_is = get_or-set_other ws 5 7 (node_count T) 0 (λ z. omega arith) ∙ get_far_size T ws
 
-  pub drain_none : get_or (set ws 5 (node_count T)) 7 0 ≡ 0 → Wrote T ws (Some (drained T e)) true (set ws 5 (node_count T))
+  pub drain_none : get_or (set ws 5 (node_count T)) 7 0 ≡ 0 → set ws 5 (node_count T) ≡ written T ws (drained T e)
   unfolding drained forgotten
-  drain_none z = (refl, first_stored (node_count T) ∙ rw (eq-eqb w.far_size 0 (sym far_size_is ∙ z)))
+  drain_none z = first_stored (node_count T) ∙ rw (eq-eqb w.far_size 0 (sym far_size_is ∙ z))
 
-  pub drain_far : (get_or (set ws 5 (node_count T)) 7 0 ≡ 0 → ⊥) → Wrote T ws (Some (drained T e)) true (set (set (set ws 5 (node_count T)) 6 0) 7 0)
+  pub drain_far : (get_or (set ws 5 (node_count T)) 7 0 ≡ 0 → ⊥) → set (set (set ws 5 (node_count T)) 6 0) 7 0 ≡ written T ws (drained T e)
   unfolding drained forgotten
-  drain_far ne = (
-    refl,
-    ap (λ y. set (set y 6 0) 7 0) (first_stored (node_count T)) ∙ put_far T ws long (with_worklist e (with_first w (node_count T))) (first_fits (node_count T)) 0 0
-        ∙ rw (ne_eqb w.far_size 0 (λ z. ne (far_size_is ∙ z))),
-  )
+  drain_far ne =
+      ap (λ y. set (set y 6 0) 7 0) (first_stored (node_count T)) ∙ put_far T ws long (with_worklist e (with_first w (node_count T))) (first_fits (node_count T)) 0 0
+      ∙ rw (ne_eqb w.far_size 0 (λ z. ne (far_size_is ∙ z)))
 
-  pub dequeue_last : (ok : Bool) (after : List ℕ) → get_or ws 4 0 ≡ 0 → Wrote T ws (Some (drained T e)) ok after → Wrote T ws (dequeued T e) ok after
+  pub dequeue_last : (after : List ℕ) → get_or ws 4 0 ≡ 0 → after ≡ written T ws (drained T e) → Wrote T ws (dequeued T e) done after
   unfolding dequeued without_first drained
-  dequeue_last ok after z h = rw (eq-eqb w.others.size 0 (sym (get_worklist_size T ws) ∙ z)) h
+  dequeue_last after z h = rw (eq-eqb w.others.size 0 (sym (get_worklist_size T ws) ∙ z)) (refl, h)
 
   -- the next word with members, after node k; b: whether it is that of the node remembered
   module _ (k : ℕ) (first : get_or ws 5 0 ≡ k) (inside : k < node_count T) (b : Bool) (test : b ≡ (eqb (get_or ws 4 0) (get_or ws 7 0) && ltb k (get_or ws 6 0))) where
@@ -311,11 +313,11 @@ module _ (T : Tables) (ws : List ℕ) (long : used T ≤ length ws) where
     waits : eqb w.others.size 0 ≡ false
     waits = ne_eqb w.others.size 0 (λ z. some-wait (get_worklist_size T ws ∙ z))
 
-    pub dequeue_astray : words32 (node_count T) ≤ q → Wrote T ws (dequeued T e) false ws
+    pub dequeue_astray : words32 (node_count T) ≤ q → Wrote T ws (dequeued T e) out_of_range ws
     unfolding dequeued without_first advance
     dequeue_astray l = wrote_none T ws (dequeued T e) ws (rw (waits, found_word, le-ltb q (words32 (node_count T)) l)) (beside_same T ws)
 
-    pub dequeue_next : (ok : Bool) (after : List ℕ) → Wrote T ws (advanced_to T q e) ok after → Wrote T ws (dequeued T e) ok after
+    pub dequeue_next : (ok : Changing) (after : List ℕ) → Wrote T ws (advanced_to T q e) ok after → Wrote T ws (dequeued T e) ok after
     unfolding dequeued without_first advanced_to
     dequeue_next ok after h = rw (waits, found_word) h
 
@@ -330,7 +332,7 @@ module _ (T : Tables) (ws : List ℕ) (long : used T ≤ length ws) where
     word : x ≡ get_or w.others.members q 0
     word = get_worklist T ws long q l
 
-    pub advance_empty : x ≡ 0 → Wrote T ws (advanced_to T q e) false ws
+    pub advance_empty : x ≡ 0 → Wrote T ws (advanced_to T q e) out_of_range ws
     unfolding advanced_to advance filled
     advance_empty z = wrote_none T ws (advanced_to T q e) ws (rw (lt-ltb q (words32 (node_count T)) l, eq-eqb (get_or w.others.members q 0) 0 (sym word ∙ z))) (beside_same T ws)
 
@@ -342,7 +344,7 @@ module _ (T : Tables) (ws : List ℕ) (long : used T ≤ length ws) where
       found : next 32 w.others.members (32 * q) ≡ m
       found = next-hit 32 w.others.members q (omega arith) (omega (arith, fits.worklist)) (rw word at small) (λ z. ne (word ∙ z)) ∙ ap (λ y. 32 * q + count_trailing_zeros 32 y) (sym word)
 
-      pub advance_low : m ≤ get_or ws 5 0 → Wrote T ws (advanced_to T q e) false ws
+      pub advance_low : m ≤ get_or ws 5 0 → Wrote T ws (advanced_to T q e) out_of_range ws
       unfolding advanced_to advance
       advance_low h =
           wrote_none T ws (advanced_to T q e) ws
@@ -417,7 +419,7 @@ module _ (T : Tables) (ws : List ℕ) (long : used T ≤ length ws) where
           go true = refl
           go false = refl
 
-      pub advance_done : get_or ws 5 0 < m → Wrote T ws (advanced_to T q e) true (set (set mid 4 (get_or mid 4 0 - 1)) 5 m)
+      pub advance_done : get_or ws 5 0 < m → Wrote T ws (advanced_to T q e) done (set (set mid 4 (get_or mid 4 0 - 1)) 5 m)
       unfolding advanced_to after
       advance_done h =
           wrote_some T ws (advanced_to T q e) (set (set mid 4 (get_or mid 4 0 - 1)) 5 m) d4

@@ -18,7 +18,7 @@ use Rattle.kept.specs.LayoutLaws.{Fits, fits_of}
 use Rattle.kept_laws.specs.FitsLaws.{missing_long}
 use Rattle.kept_laws.specs.OptionLaws.{some_is, then_some}
 use Rattle.kept_laws.specs.Written.{written_same, put_support, get_support}
-use Rattle.kept_laws.specs.Wrote.{Wrote, beside_same, wrote_some, wrote_none, wrote_true, wrote_false}
+use Rattle.kept_laws.specs.Wrote.{Wrote, beside_same, wrote_some, wrote_none, wrote_done, wrote_out_of_range, Changing, done, out_of_range}
 use Rattle.node_truth.specs.InWords.{present_in}
 use Rattle.node_truth.specs.InWordsLaws.{present_in_lem}
 use Rattle.retained.specs.Changes.{missing_turned, missing_moved}
@@ -44,12 +44,12 @@ module _ (T : Tables) (ws : List ℕ) (long : used T ≤ length ws) (a : ℕ) (l
 
   module _ (s n : ℕ) where
     -- neither is 0: nothing is looked at
-    pub missing_stays : (s ≡ 0 → ⊥) → (n ≡ 0 → ⊥) → Wrote T ws (missing_moved T a s n e) true ws
+    pub missing_stays : (s ≡ 0 → ⊥) → (n ≡ 0 → ⊥) → Wrote T ws (missing_moved T a s n e) done ws
     unfolding missing_moved missing_by
     missing_stays x y = wrote_some T ws (missing_moved T a s n e) ws e (rw (ne_eqb s 0 x, ne_eqb n 0 y)) (sym (written_same T ws long))
 
     -- one of them is
-    pub missing_moves : (lacking ok : Bool) (mid : List ℕ) → eqb s 0 || eqb n 0 ≡ true → lacking ≡ present_in T.counts ws a && eqb n 0
+    pub missing_moves : (lacking : Bool) (ok : Changing) (mid : List ℕ) → eqb s 0 || eqb n 0 ≡ true → lacking ≡ present_in T.counts ws a && eqb n 0
         → Wrote T ws (missing_turned T a lacking e) ok mid → Wrote T ws (missing_moved T a s n e) ok mid
     unfolding missing_moved missing_by missing_turned
     missing_moves lacking ok mid b is w = rw (b, sym (is ∙ ap (λ p. p && eqb n 0) (present_in_lem T ws long a l))) w
@@ -61,11 +61,11 @@ module _ (T : Tables) (ws : List ℕ) (long : used T ≤ length ws) (a : ℕ) (l
     counted_in : (o : Option ℕ) → o ≡ moved T.made t (get_or ws (support_start T + a) 0) → moved T.made t (get_or e.support a 0) ≡ o
     counted_in o q = ap (moved T.made t) (sym (get_support T ws long a l)) ∙ sym q
 
-    pub support_astray : None ≡ moved T.made t (get_or ws (support_start T + a) 0) → Wrote T ws (support_moved T t a e) false ws
+    pub support_astray : None ≡ moved T.made t (get_or ws (support_start T + a) 0) → Wrote T ws (support_moved T t a e) out_of_range ws
     unfolding support_moved
     support_astray q = wrote_none T ws (support_moved T t a e) ws (rw (counted_in None q)) (beside_same T ws)
 
-    module _ (n : ℕ) (q : Some n ≡ moved T.made t (get_or ws (support_start T + a) 0)) (mid : List ℕ) (ok : Bool)
+    module _ (n : ℕ) (q : Some n ≡ moved T.made t (get_or ws (support_start T + a) 0)) (mid : List ℕ) (ok : Changing)
         (w : Wrote T ws (missing_moved T a (get_or ws (support_start T + a) 0) n e) ok mid) where
       abbrev s : ℕ
       s = get_or ws (support_start T + a) 0
@@ -77,20 +77,20 @@ module _ (T : Tables) (ws : List ℕ) (long : used T ≤ length ws) (a : ℕ) (l
       put : ℕ → CountedSet → Option Evaluation
       put k m = Some (with_support e (set e.support a k) m)
 
-      pub support_none : ok ≡ false → Wrote T ws (support_moved T t a e) false mid
+      pub support_none : ok ≡ out_of_range → Wrote T ws (support_moved T t a e) out_of_range mid
       unfolding support_moved missing_moved
       support_none p =
-          let r = wrote_false T ws (missing_moved T a s n e) mid ok w p in
+          let r = wrote_out_of_range T ws (missing_moved T a s n e) mid ok w p in
           wrote_none T ws (support_moved T t a e) mid (rw (loaded, sym q, not_then (missing_by T a s n e) r.0)) r.1
         where
           not_then : (o : Option CountedSet) → and_then o (λ m. Some (with_support e e.support m)) ≡ None → o ≡ None
           not_then None h = refl
           not_then (Some m) h = let z : ◌≡◌ {A = ℕ} 0 1 = cc in absurd (omega arith)
 
-      pub support_done : ok ≡ true → Wrote T ws (support_moved T t a e) true (set mid (support_start T + a) n)
+      pub support_done : ok ≡ done → Wrote T ws (support_moved T t a e) done (set mid (support_start T + a) n)
       unfolding support_moved missing_moved put
       support_done p =
-          let r = wrote_true T ws (missing_moved T a s n e) mid ok w p in
+          let r = wrote_done T ws (missing_moved T a s n e) mid ok w p in
           let m = then_some (missing_by T a s n e) (λ m. Some (with_support e e.support m)) r.0 r.1 in
           let was : mid ≡ written T ws (with_support e e.support m.0) = r.2 ∙ ap (written T ws) (sym (some_is (with_support e e.support m.0) r.0 m.2)) in
           wrote_some T ws (support_moved T t a e) (set mid (support_start T + a) n) (with_support e (set e.support a n) m.0)

@@ -14,7 +14,7 @@ use Rattle.kept.specs.Evaluation.{Evaluation}
 use Rattle.kept.specs.Start.{all_entered}
 use Rattle.kept.specs.Layout.{of_words, used}
 use Rattle.kept.specs.LayoutLaws.{Fits, fits_of}
-use Rattle.kept_laws.specs.Wrote.{Wrote, wrote_true, wrote_false, beside_same}
+use Rattle.kept_laws.specs.Wrote.{Wrote, wrote_done, wrote_out_of_range, beside_same, Changing, done, out_of_range}
 use Rattle.retained.specs.Changes.{presence_turned}
 use Rattle.retained.specs.PresenceLaws.{missing_fits, missing_turned_lem}
 use Rattle.start.specs.Moved.{atom_moved}
@@ -45,7 +45,7 @@ module _ (T : Tables) (a : ℕ) where
       rw m.2 (missing_fits T e a (x && eqb (get_or e.support a 0) 0) m.0 m.1 f)
 
   module _ (J : Interpretation) (x : Bool) (same : J a ≡ x) (ws : List ℕ) (room : used T ≤ length ws)
-      (ok : Bool) (mid : List ℕ) (q : Wrote T ws (presence_turned T a x (of_words T ws)) ok mid) where
+      (ok : Changing) (mid : List ℕ) (q : Wrote T ws (presence_turned T a x (of_words T ws)) ok mid) where
     abbrev whole : Option Evaluation
     whole = atom_moved T J a (of_words T ws)
 
@@ -56,24 +56,24 @@ module _ (T : Tables) (a : ℕ) where
     first = onward_first T ws whole room whole refl
 
     -- it would leave the range of missing atoms
-    pub turn_none : ok ≡ false → Wrote T ws whole false mid
+    pub turn_none : ok ≡ out_of_range → Wrote T ws whole out_of_range mid
     turn_none e =
-        let f = wrote_false T ws (presence_turned T a x (of_words T ws)) mid ok q e in
+        let f = wrote_out_of_range T ws (presence_turned T a x (of_words T ws)) mid ok q e in
         onward_stray T ws whole room ws whole first mid (moved_twice J x (of_words T ws) same ∙ ap (λ o. and_then o rest) f.0) f.1
 
-    module _ (e : ok ≡ true) where
+    module _ (e : ok ≡ done) where
       then_nodes : Onward T ws whole mid (rest (of_words T mid))
       then_nodes =
-          let f = wrote_true T ws (presence_turned T a x (of_words T ws)) mid ok q e in
+          let f = wrote_done T ws (presence_turned T a x (of_words T ws)) mid ok q e in
           onward_more T ws whole room ws whole first (presence_turned T a x (of_words T ws)) rest f.0 mid
           (moved_twice J x (of_words T ws) same) f.1 (presence_fits x (of_words T ws) f.0 f.1 (fits_of T ws room)) f.2
 
       -- its list is out of order
-      pub turn_disordered : in_order T.readers (reader_words T.counts) slot ≡ false → Wrote T ws whole false mid
+      pub turn_disordered : in_order T.readers (reader_words T.counts) slot ≡ false → Wrote T ws whole out_of_range mid
       turn_disordered s =
           onward_stray T ws whole room mid (rest (of_words T mid)) then_nodes mid (ap (λ o. and_then o (all_entered T (of_words T mid))) (nodes_none s)) (beside_same T mid)
 
-      pub turn_done : in_order T.readers (reader_words T.counts) slot ≡ true → (list : List ℕ) → list ≡ laying.list_at T.readers slot → (r : Bool) (after : List ℕ)
+      pub turn_done : in_order T.readers (reader_words T.counts) slot ≡ true → (list : List ℕ) → list ≡ laying.list_at T.readers slot → (r : Changing) (after : List ℕ)
           → Wrote T mid (all_entered T (of_words T mid) list) r after → Wrote T ws whole r after
       turn_done s list p r after h =
           let there : atom_nodes_at T a ≡ Some list = nodes_there s ∙ ap Some (sym p) in

@@ -19,7 +19,7 @@ use Rattle.kept.specs.LayoutLaws.{Fits, fits_of}
 use Rattle.kept_laws.specs.Given.{candidate_at}
 use Rattle.kept_laws.specs.StartChanged.{all_turned}
 use Rattle.kept_laws.specs.Written.{written_same, put_candidate, get_candidate}
-use Rattle.kept_laws.specs.Wrote.{Wrote, mid_holds, wrote_then}
+use Rattle.kept_laws.specs.Wrote.{Wrote, mid_holds, wrote_then, Changing}
 use Rattle.start.specs.Moved.{all_moved, pair_laid}
 use Rattle.start.specs.MovedLaws.{over, over_fits, all_moved_lem}
 use Rattle.start.specs.WordLaws.{word_atoms}
@@ -87,7 +87,7 @@ module _ (T : Tables) (ws : List ℕ) (room : used T ≤ length ws) (words : Sma
     in_words : (k : ℕ) → k < 64 → unlike (present e (j * 64 + k)) (bit new k) ≡ true → (j * 64 + k) / 32 < length e.candidate
     in_words k l h = omega (arith, within k l h, fits.candidate)
 
-    pub pair_turned : (x : ℕ) → Holds T ws j x → (r : Bool) (after : List ℕ)
+    pub pair_turned : (x : ℕ) → Holds T ws j x → (r : Changing) (after : List ℕ)
         → Wrote T mid (all_moved T J (word_atoms 64 j (bit_xor x new)) (of_words T mid)) r after
         → Wrote T ws (all_turned T J (places (λ a. unlike (present (of_words T ws) a) (J a)) (j * 64) 64) (of_words T ws)) r after
     pair_turned x holds r after h =

@@ -8,7 +8,7 @@ use Rattle.kept.specs.Evaluation.{Evaluation}
 use Rattle.kept.specs.Layout.{of_words, written, used}
 use Rattle.kept.specs.LayoutLaws.{Fits, fits_of}
 use Rattle.kept_laws.specs.Written.{written_same, of_written, written_again, length-written}
-use Rattle.kept_laws.specs.Wrote.{Beside, Wrote, beside_then, beside_written}
+use Rattle.kept_laws.specs.Wrote.{Beside, Wrote, beside_then, beside_written, Changing, done, out_of_range}
 
 -- of ws with o to be entered, mid is reached: rest is left to do on its evaluation
 pub record Onward (T : Tables) (ws : List ℕ) (o : Option Evaluation) (mid : List ℕ) (rest : Option Evaluation) : Type 0 where
@@ -31,14 +31,14 @@ module _ (T : Tables) (ws : List ℕ) (o : Option Evaluation) (room : used T ≤
     onward_beside = rw w.held (beside_written T ws (of_words T mid) room onward_fits)
 
     -- a 17: after is what a call left of mid
-    pub onward_stray : (after : List ℕ) → rest ≡ None → Beside T mid after → Wrote T ws o false after
+    pub onward_stray : (after : List ℕ) → rest ≡ None → Beside T mid after → Wrote T ws o out_of_range after
     onward_stray after p b = rw (← w.left, p) (refl, beside_then T ws mid after onward_beside b)
 
-    pub onward_done : rest ≡ Some (of_words T mid) → Wrote T ws o true mid
+    pub onward_done : rest ≡ Some (of_words T mid) → Wrote T ws o done mid
     onward_done p = rw (← w.left, p) (refl, w.held)
 
     -- a call does all that is left
-    pub onward_then : (r : Bool) (after : List ℕ) → Wrote T mid rest r after → Wrote T ws o r after
+    pub onward_then : (r : Changing) (after : List ℕ) → Wrote T mid rest r after → Wrote T ws o r after
     onward_then r after h = go rest refl h
       where
         go : (x : Option Evaluation) → rest ≡ x → Wrote T mid x r after → Wrote T ws o r after

@@ -33,7 +33,7 @@ use Rattle.kept_laws.specs.Halves.{halves}
 use Rattle.kept_laws.specs.StartChanged.{all_turned, start_changed, turned_present}
 use Rattle.kept_laws.specs.Written.{get_candidate, of_written}
 use Rattle.difference.specs.Marks.{Same, Upto}
-use Rattle.kept_laws.specs.Wrote.{Wrote, wrote_true, wrote_false}
+use Rattle.kept_laws.specs.Wrote.{Wrote, wrote_done, wrote_out_of_range, Changing, done, out_of_range}
 use Rattle.start.specs.WordLaws.{turned_none}
 use Rattle.start.specs.PairLaws.{place_member}
 use Rattle.start.specs.Onward.{Onward, onward_first, onward-room, onward_stray, onward_done, onward_more}
@@ -192,7 +192,7 @@ module _ (T : Tables) (new : List ℕ) (ws : List ℕ) where
 
     module _ (mid : List ℕ) (p : ℕ) (s : Starting mid p) where
       -- from pair `end` on all words are the same
-      pub starting_done : (end : ℕ) → end ≤ p → ((i : ℕ) → 2 * end ≤ i → i < words32 (atom_count T) → Same (candidate_start T) ws new i) → Wrote T ws whole true mid
+      pub starting_done : (end : ℕ) → end ≤ p → ((i : ℕ) → 2 * end ≤ i → i < words32 (atom_count T) → Same (candidate_start T) ws new i) → Wrote T ws whole done mid
       starting_done end l alike =
           let none : later p ≡ [] = none_later p (λ a b. same_place a (alike (a / 32) (omega arith))) in
           onward_done T ws whole room mid (all_turned T J (later p) (of_words T mid)) s.onward
@@ -223,16 +223,16 @@ module _ (T : Tables) (new : List ℕ) (ws : List ℕ) where
         go_on : all_turned T J (later p) (of_words T mid) ≡ and_then (all_turned T J here (of_words T mid)) (all_turned T J (later (p + 1)))
         go_on = ap (λ xs. all_turned T J xs (of_words T mid)) split ∙ turned_append T J here (later (p + 1)) (of_words T mid)
 
-        module _ (r : Bool) (after : List ℕ) (h : Wrote T mid (all_turned T J here (of_words T mid)) r after) where
-          pub starting_stray : r ≡ false → Wrote T ws whole false after
+        module _ (r : Changing) (after : List ℕ) (h : Wrote T mid (all_turned T J here (of_words T mid)) r after) where
+          pub starting_stray : r ≡ out_of_range → Wrote T ws whole out_of_range after
           starting_stray q =
-              let f = wrote_false T mid (all_turned T J here (of_words T mid)) after r h q in
+              let f = wrote_out_of_range T mid (all_turned T J here (of_words T mid)) after r h q in
               onward_stray T ws whole room mid (all_turned T J (later p) (of_words T mid)) s.onward after
               (go_on ∙ ap (λ o. and_then o (all_turned T J (later (p + 1)))) f.0) f.1
 
-          pub starting_more : r ≡ true → Starting after (p + 1)
+          pub starting_more : r ≡ done → Starting after (p + 1)
           starting_more q =
-              let f = wrote_true T mid (all_turned T J here (of_words T mid)) after r h q in
+              let f = wrote_done T mid (all_turned T J here (of_words T mid)) after r h q in
               let fits : Fits T (of_words T mid) = fits_of T mid middle in
               let g : Fits T f.0 = turned_fits T J here (of_words T mid) f.0 f.1 fits in
               let holds : of_words T after ≡ f.0 = ap (of_words T) f.2 ∙ of_written T mid middle f.0 g in

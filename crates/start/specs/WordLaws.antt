@@ -13,7 +13,7 @@ use Rattle.kept.specs.Tables.{Tables}
 use Rattle.kept.specs.Evaluation.{Evaluation}
 use Rattle.kept.specs.Layout.{of_words, used}
 use Rattle.kept_laws.specs.StartChanged.{all_turned}
-use Rattle.kept_laws.specs.Wrote.{Wrote, wrote_true, wrote_false}
+use Rattle.kept_laws.specs.Wrote.{Wrote, wrote_done, wrote_out_of_range, Changing, done, out_of_range}
 use Rattle.start.specs.Moved.{atom_moved, all_moved}
 use Rattle.start.specs.MovedLaws.{moved_fits}
 use Rattle.start.specs.Onward.{Onward, onward_first, onward_fits, onward_stray, onward_done, onward_more}
@@ -57,12 +57,12 @@ module _ (T : Tables) (J : Interpretation) where
         abbrev rest : Option Evaluation
         rest = all_moved T J (word_atoms w i x) (of_words T mid)
 
-        pub turning_done : k ≡ w → Wrote T ws whole true mid
+        pub turning_done : k ≡ w → Wrote T ws whole done mid
         turning_done z =
             onward_done T ws whole room mid rest o
             (ap (λ l. all_moved T J (map (λ k. i * w + k) l) (of_words T mid)) (place_none w x k is z) ∙ moved_none (of_words T mid))
 
-        module _ (ne : k ≡ w → ⊥) (small : x < 2 ^ w) (r : Bool) (after : List ℕ) (h : Wrote T mid (atom_moved T J (i * w + k) (of_words T mid)) r after) where
+        module _ (ne : k ≡ w → ⊥) (small : x < 2 ^ w) (r : Changing) (after : List ℕ) (h : Wrote T mid (atom_moved T J (i * w + k) (of_words T mid)) r after) where
           abbrev a : ℕ
           a = i * w + k
 
@@ -74,13 +74,13 @@ module _ (T : Tables) (J : Interpretation) where
               ap (λ l. all_moved T J (map (λ k. i * w + k) l) (of_words T mid)) (place_off w x k is ne small)
               ∙ moved_more a later (of_words T mid)
 
-          pub turning_stray : r ≡ false → Wrote T ws whole false after
+          pub turning_stray : r ≡ out_of_range → Wrote T ws whole out_of_range after
           turning_stray s =
-              let f = wrote_false T mid (atom_moved T J a (of_words T mid)) after r h s in
+              let f = wrote_out_of_range T mid (atom_moved T J a (of_words T mid)) after r h s in
               onward_stray T ws whole room mid rest o after (go_on ∙ ap (λ o. and_then o (all_moved T J later)) f.0) f.1
 
-          pub turning_more : r ≡ true → Turning after (bit_and x (x - 1))
+          pub turning_more : r ≡ done → Turning after (bit_and x (x - 1))
           turning_more s =
-              let f = wrote_true T mid (atom_moved T J a (of_words T mid)) after r h s in
+              let f = wrote_done T mid (atom_moved T J a (of_words T mid)) after r h s in
               onward_more T ws whole room mid rest o (atom_moved T J a (of_words T mid)) (all_moved T J later) f.0 after
               go_on f.1 (moved_fits T J a (of_words T mid) f.0 f.1 (onward_fits T ws whole room mid rest o)) f.2

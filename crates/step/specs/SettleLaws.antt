@@ -18,7 +18,7 @@ use Rattle.kept.specs.Layout.{of_words, written, used}
 use Rattle.kept.specs.LayoutLaws.{Fits, fits_of}
 use Rattle.kept_laws.specs.FitsLaws.{truths_fit}
 use Rattle.kept_laws.specs.Written.{written_same, put_truth}
-use Rattle.kept_laws.specs.Wrote.{Wrote, beside_same, mid_holds, wrote_none, wrote_same, wrote_then}
+use Rattle.kept_laws.specs.Wrote.{Wrote, beside_same, mid_holds, wrote_none, wrote_same, wrote_then, Changing, done, out_of_range}
 use Rattle.node_truth.specs.InWords.{true_in}
 use Rattle.node_truth.specs.InWordsLaws.{true_in_lem}
 use Rattle.step.specs.Steps.{settled_to}
@@ -52,17 +52,17 @@ module _ (T : Tables) (ws : List ℕ) (long : used T ≤ length ws) (k : ℕ) (l
   differs : (x : Bool) → beq b t ≡ x → unlike (truth_at e k) t ≡ not x
   differs x p = ap (λ y. unlike y t) (sym (is ∙ true_in_lem T ws long k l)) ∙ unlike-not b t ∙ ap not p
 
-  pub settle_same : beq b t ≡ true → Wrote T ws (settled_to T k t e) true ws
+  pub settle_same : beq b t ≡ true → Wrote T ws (settled_to T k t e) done ws
   unfolding settled_to
   settle_same p = rw (differs true p) (wrote_same T ws long)
 
   module _ (p : beq b t ≡ false) (o : Bool) (q : o ≡ in_order T.readers (reader_words T.counts) k) where
-    pub settle_astray : o ≡ false → Wrote T ws (settled_to T k t e) false ws
+    pub settle_astray : o ≡ false → Wrote T ws (settled_to T k t e) out_of_range ws
     unfolding settled_to
     settle_astray r = wrote_none T ws (settled_to T k t e) ws (rw (differs false p, list_not T k o q r)) (beside_same T ws)
 
     pub settle_told : o ≡ true → (mid : List ℕ) → mid ≡ set ws (8 + k) (truth_word t) → (list : List ℕ) → list ≡ laid.list_at T.readers k
-        → (ok : Bool) (after : List ℕ) → Wrote T mid (readers_updated T k t (of_words T mid) list) ok after → Wrote T ws (settled_to T k t e) ok after
+        → (ok : Changing) (after : List ℕ) → Wrote T mid (readers_updated T k t (of_words T mid) list) ok after → Wrote T ws (settled_to T k t e) ok after
     unfolding settled_to
     settle_told r mid m list s ok after w =
         let put : mid ≡ written T ws become = m ∙ ap (λ x. set x (8 + k) (truth_word t)) (sym (written_same T ws long)) ∙ put_truth T ws long e (fits_of T ws long) k (truth_word t) l in

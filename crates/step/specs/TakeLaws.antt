@@ -14,7 +14,7 @@ use Rattle.kept.specs.Layout.{of_words, written, used}
 use Rattle.kept.specs.LayoutLaws.{Fits, fits_of}
 use Rattle.kept_laws.specs.OptionLaws.{some_is, then_some}
 use Rattle.kept_laws.specs.FitsLaws.{left_is, worklist_fits}
-use Rattle.kept_laws.specs.Wrote.{Wrote, mid_holds, wrote_true, wrote_false, wrote_then}
+use Rattle.kept_laws.specs.Wrote.{Wrote, mid_holds, wrote_done, wrote_out_of_range, wrote_then, Changing, done, out_of_range}
 use Rattle.retained.specs.Changes.{dequeued}
 use Rattle.step.specs.declared.Taking.TheVariants.{Took, Fault}
 use Rattle.step.specs.Steps.{settled_to, taken_from, Steps}
@@ -46,16 +46,16 @@ module _ (T : Tables) (k : ℕ) where
       go None h = refl
       go (Some w) h = let z : ◌≡◌ {A = ℕ} 0 1 = cc in absurd (omega arith)
 
-  module _ (ws : List ℕ) (long : used T ≤ length ws) (t : Bool) (ok : Bool) (mid : List ℕ) (w : Wrote T ws (dequeued T (of_words T ws)) ok mid) where
+  module _ (ws : List ℕ) (long : used T ≤ length ws) (t : Bool) (ok : Changing) (mid : List ℕ) (w : Wrote T ws (dequeued T (of_words T ws)) ok mid) where
     abbrev e : Evaluation
     e = of_words T ws
 
-    pub take_stuck : ok ≡ false → Steps T ws (taken_from T k t e) (Fault 0) mid
+    pub take_stuck : ok ≡ out_of_range → Steps T ws (taken_from T k t e) (Fault 0) mid
     unfolding taken_from
-    take_stuck q = let r = wrote_false T ws (dequeued T e) mid ok w q in rw (off_not e r.0) (refl, r.1)
+    take_stuck q = let r = wrote_out_of_range T ws (dequeued T e) mid ok w q in rw (off_not e r.0) (refl, r.1)
 
     -- then it became t, or there was a 17
-    module _ (gone : ok ≡ true) (yes : Bool) (after : List ℕ) (s : Wrote T mid (settled_to T k t (of_words T mid)) yes after) where
+    module _ (gone : ok ≡ done) (yes : Changing) (after : List ℕ) (s : Wrote T mid (settled_to T k t (of_words T mid)) yes after) where
       record Left : Type 0 where
         out : Evaluation
         is : taken_from T k t e ≡ took_at k (settled_to T k t out)
@@ -64,7 +64,7 @@ module _ (T : Tables) (k : ℕ) where
       left : Left
       unfolding taken_from
       left =
-          let r = wrote_true T ws (dequeued T e) mid ok w gone in
+          let r = wrote_done T ws (dequeued T e) mid ok w gone in
           let o = off e r.0 r.1 in
           let d : Evaluation = with_worklist e o.0 in
           let put : mid ≡ written T ws d = r.2 ∙ ap (written T ws) o.2 in
@@ -75,14 +75,14 @@ module _ (T : Tables) (k : ℕ) where
             wrote = wrote_then T ws mid d long f put (settled_to T k t d) yes after (rw (mid_holds T ws mid d long f put) at s);
           }
 
-      took_done : (o : Option Evaluation) → Wrote T ws o yes after → yes ≡ true → Steps T ws (took_at k o) (Took k) after
-      took_done o h q = let r = wrote_true T ws o after yes h q in rw r.1 (refl, r.2)
+      took_done : (o : Option Evaluation) → Wrote T ws o yes after → yes ≡ done → Steps T ws (took_at k o) (Took k) after
+      took_done o h q = let r = wrote_done T ws o after yes h q in rw r.1 (refl, r.2)
 
-      took_none : (o : Option Evaluation) → Wrote T ws o yes after → yes ≡ false → Steps T ws (took_at k o) (Fault k) after
-      took_none o h q = let r = wrote_false T ws o after yes h q in rw r.0 (refl, r.1)
+      took_none : (o : Option Evaluation) → Wrote T ws o yes after → yes ≡ out_of_range → Steps T ws (took_at k o) (Fault k) after
+      took_none o h q = let r = wrote_out_of_range T ws o after yes h q in rw r.0 (refl, r.1)
 
-      pub take_done : yes ≡ true → Steps T ws (taken_from T k t e) (Took k) after
+      pub take_done : yes ≡ done → Steps T ws (taken_from T k t e) (Took k) after
       take_done q = rw left.is (took_done (settled_to T k t left.out) left.wrote q)
 
-      pub take_fault : yes ≡ false → Steps T ws (taken_from T k t e) (Fault k) after
+      pub take_fault : yes ≡ out_of_range → Steps T ws (taken_from T k t e) (Fault k) after
       take_fault q = rw left.is (took_none (settled_to T k t left.out) left.wrote q)

@@ -27,7 +27,7 @@ use Rattle.kept_laws.specs.Given.{candidate_at, missing_at}
 use Rattle.kept_laws.specs.WalkEnds.{step_next}
 use Rattle.kept_laws.specs.Turns.{resumed, resumed_none, walk_more, walk_done, walk_stop}
 use Rattle.kept_laws.specs.Written.{written_same, of_written, length-written, written_again, part-candidate, get_candidate, get_first}
-use Rattle.kept_laws.specs.Wrote.{Wrote, wrote_true, wrote_false, Beside, beside_same, beside_then, beside_written}
+use Rattle.kept_laws.specs.Wrote.{Wrote, wrote_done, wrote_out_of_range, Beside, beside_same, beside_then, beside_written}
 use Rattle.step.specs.Steps.{Steps}
 use Rattle.step.specs.declared.Taking.{Taking}
 use Rattle.step.specs.declared.Taking.TheVariants.{Idle, Took, Fault}
@@ -180,13 +180,13 @@ module _ (T : Tables) (J : Interpretation) (ws : List ℕ) (long : used T ≤ le
     pub update_fault : r ≡ false → Results T ws result (Refused (BadEntry 0)) mid
     unfolding kept_walk kept_result
     update_fault p =
-        let s = wrote_false T ws (walk_start T J (atom_count T) e) mid r w p in
+        let s = wrote_out_of_range T ws (walk_start T J (atom_count T) e) mid r w p in
         refused_results T ws result (BadEntry 0) mid (rw (h, s.0)) s.1
 
     pub update_walk : r ≡ true → (c : Checked) (after : List ℕ) → Results T mid (resumed T 0 (walk T (suc (node_count T)) (of_words T mid))) c after → Results T ws result c after
     unfolding kept_walk
     update_walk p c after x =
-        let s = wrote_true T ws (walk_start T J (atom_count T) e) mid r w p in
+        let s = wrote_done T ws (walk_start T J (atom_count T) e) mid r w p in
         let f : Fits T s.0 = start_fits T J (atom_count T) e s.0 s.1 (fits_of T ws long) in
         let holds : of_words T mid ≡ s.0 = ap (of_words T) s.2 ∙ of_written T ws long s.0 f in
         results_by T ws result (resumed T 0 (walk T (suc (node_count T)) (of_words T mid))) c after

@@ -3,7 +3,7 @@ use Rattle.retained.specs.QueueLaws.{next_far, next_here, next_beyond, dequeue_l
 use Rattle.retained.proofs.dequeue.Goals as goal
 
 pub returns-then-kept-eq0 : goal.returns-then-kept-eq0
-returns-then-kept-eq0 c = λ T. dequeue_last (sized c.args.counts T) c.args.kept.now c.requires.2 _ _ c.if-kept-eq0.true (c.drain.ensures T)
+returns-then-kept-eq0 c = λ T. dequeue_last (sized c.args.counts T) c.args.kept.now c.requires.2 _ c.if-kept-eq0.true (c.drain.ensures T)
 
 pub returns-then-q-counts : goal.returns-then-q-counts
 returns-then-q-counts c = λ T. dequeue_astray (sized c.args.counts T) c.args.kept.now c.requires.2 c.if-kept-eq0.false _ (next_far (sized c.args.counts T) c.args.kept.now c.requires.2 c.args.k c.requires.3 c.requires.1 _ c.far_next.ensures _ c.if-far_next.true c.word-q.ensures.value) c.if-q-counts.true
