@@ -29,8 +29,8 @@ abbrev pub Wrote : Tables → List ℕ → Option Evaluation → Changing → Li
 Wrote T ws None ok after = (ok ≡ out_of_range) × Beside T ws after
 Wrote T ws (Some e) ok after = (ok ≡ done) × (after ≡ written T ws e)
 
-not_both : out_of_range ≡ done → ⊥
-not_both e = cc
+pub apart : out_of_range ≡ done → ⊥
+apart e = cc
 
 pub beside_same : (T : Tables) (ws : List ℕ) → Beside T ws ws
 beside_same T ws = record { long = refl; behind = refl }
@@ -54,7 +54,7 @@ module _ (T : Tables) (ws : List ℕ) (o : Option Evaluation) (after : List ℕ)
   wrote_done ok w p = go o refl w
     where
       go : (x : Option Evaluation) → o ≡ x → Wrote T ws x ok after → (e : Evaluation) × (o ≡ Some e) × (after ≡ written T ws e)
-      go None q h = absurd (not_both (sym h.0 ∙ p))
+      go None q h = absurd (apart (sym h.0 ∙ p))
       go (Some e) q h = (e, q, h.1)
 
   pub wrote_out_of_range : (ok : Changing) → Wrote T ws o ok after → ok ≡ out_of_range → (o ≡ None) × Beside T ws after
@@ -62,7 +62,7 @@ module _ (T : Tables) (ws : List ℕ) (o : Option Evaluation) (after : List ℕ)
     where
       go : (x : Option Evaluation) → o ≡ x → Wrote T ws x ok after → (o ≡ None) × Beside T ws after
       go None q h = (q, h.1)
-      go (Some e) q h = absurd (not_both (sym p ∙ h.0))
+      go (Some e) q h = absurd (apart (sym p ∙ h.0))
 
 -- nothing to do
 pub wrote_same : (T : Tables) (ws : List ℕ) → used T ≤ length ws → Wrote T ws (Some (of_words T ws)) done ws

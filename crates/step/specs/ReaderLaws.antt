@@ -1,6 +1,6 @@
 -- What each branch on a reader gives: the reader was told, or it is a 17.
 -- Assumes nothing.
-use Rattle.std.specs.Prelude.{ℕ, ◌<◌, ◌≤◌, ◌≡◌, refl, Bool, false, ltb, List, None}
+use Rattle.std.specs.Prelude.{ℕ, ◌<◌, ◌≤◌, ◌≡◌, refl, Bool, ltb, List, None}
 use Rattle.std.proofs.Common.{zero-add, arith, ap, ◌∙◌}
 use Rattle.std.proofs.Math.Path.{sym}
 use Rattle.std.proofs.Math.Bool.{and-false}

@@ -1,8 +1,10 @@
 -- What a call of `step` is lent, and what it answers and leaves.
 -- Assumes nothing.
-use Rattle.std.specs.Prelude.{ℕ, ◌*◌, ◌≤◌, ◌≡◌, Bool, cond, List, set, Option, Some}
+use Rattle.std.specs.Prelude.{ℕ, ◌*◌, ◌≤◌, ◌≡◌, Bool, cond, List, set, Option, Some, None, Result, Ok, Err}
 use Rattle.theory.specs.Limits.{Limited}
 use Rattle.theory.specs.declared.Counts.{Counts}
+use Rattle.theory.specs.declared.Refusal.{Refusal}
+use Rattle.theory.specs.declared.Refusal.TheVariants.{BadEntry}
 use Rattle.words.specs.Changed.{unlike}
 use Rattle.readers.specs.ReaderTable.{reader_words}
 use Rattle.kept.specs.CountedSet.{and_then}
@@ -14,8 +16,6 @@ use Rattle.kept.specs.Step.{readers_updated, Stepped, idle, took, fault, settled
 use Rattle.kept.specs.Layout.{written}
 use Rattle.kept_laws.specs.Given.{used_by}
 use Rattle.kept_laws.specs.Wrote.{Beside}
-use Rattle.step.specs.declared.Taking.{Taking}
-use Rattle.step.specs.declared.Taking.TheVariants.{Idle, Took, Fault}
 
 -- the slices are as long as the counts say, and no more producers than roots
 pub record Lent (t : Counts) (made nodes operands producers readers kept : ℕ) : Type 0 where
@@ -35,7 +35,8 @@ settled_to T k t e = cond (unlike (truth_at e k) t) (and_then (readers_at T k) (
 unfoldable pub taken_from : Tables → ℕ → Bool → Evaluation → Stepped
 taken_from T k t e = settled_from T k e (Some t) (without_first (node_count T) e.worklist)
 
-abbrev pub Steps : Tables → List ℕ → Stepped → Taking → List ℕ → Type 0
-Steps T ws idle r after = (r ≡ Idle) × (after ≡ ws)
-Steps T ws (took k e) r after = (r ≡ Took k) × (after ≡ written T ws e)
-Steps T ws (fault k) r after = (r ≡ Fault k) × Beside T ws after
+-- none: nothing was on the worklist; or the node that was gone over
+abbrev pub Steps : Tables → List ℕ → Stepped → Result (Option ℕ) Refusal → List ℕ → Type 0
+Steps T ws idle r after = (r ≡ Ok None) × (after ≡ ws)
+Steps T ws (took k e) r after = (r ≡ Ok (Some k)) × (after ≡ written T ws e)
+Steps T ws (fault k) r after = (r ≡ Err (BadEntry k)) × Beside T ws after

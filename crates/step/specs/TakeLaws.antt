@@ -1,6 +1,6 @@
 -- A node leaves the worklist and gets its truth.
 -- Assumes nothing.
-use Rattle.std.specs.Prelude.{ℕ, ◌≤◌, Bool, true, false, cond, List, length, set, Option, Some, None}
+use Rattle.std.specs.Prelude.{ℕ, ◌≤◌, Bool, true, false, cond, List, length, set, Option, Some, None, Ok, Err}
 use Rattle.std.proofs.Common.{arith, ◌∙◌}
 use Rattle.std.proofs.Math.Path.{◌≡◌, refl, ap, sym}
 use Rattle.words.specs.Changed.{unlike}
@@ -16,7 +16,7 @@ use Rattle.kept_laws.specs.OptionLaws.{some_is, then_some}
 use Rattle.kept_laws.specs.FitsLaws.{left_is, worklist_fits}
 use Rattle.kept_laws.specs.Wrote.{Wrote, mid_holds, wrote_done, wrote_out_of_range, wrote_then, Changing, done, out_of_range}
 use Rattle.retained.specs.Changes.{dequeued}
-use Rattle.step.specs.declared.Taking.TheVariants.{Took, Fault}
+use Rattle.theory.specs.declared.Refusal.TheVariants.{BadEntry}
 use Rattle.step.specs.Steps.{settled_to, taken_from, Steps}
 
 module _ (T : Tables) (k : ℕ) where
@@ -50,7 +50,7 @@ module _ (T : Tables) (k : ℕ) where
     abbrev e : Evaluation
     e = of_words T ws
 
-    pub take_stuck : ok ≡ out_of_range → Steps T ws (taken_from T k t e) (Fault 0) mid
+    pub take_stuck : ok ≡ out_of_range → Steps T ws (taken_from T k t e) (Err (BadEntry 0)) mid
     unfolding taken_from
     take_stuck q = let r = wrote_out_of_range T ws (dequeued T e) mid ok w q in rw (off_not e r.0) (refl, r.1)
 
@@ -75,14 +75,14 @@ module _ (T : Tables) (k : ℕ) where
             wrote = wrote_then T ws mid d long f put (settled_to T k t d) yes after (rw (mid_holds T ws mid d long f put) at s);
           }
 
-      took_done : (o : Option Evaluation) → Wrote T ws o yes after → yes ≡ done → Steps T ws (took_at k o) (Took k) after
+      took_done : (o : Option Evaluation) → Wrote T ws o yes after → yes ≡ done → Steps T ws (took_at k o) (Ok (Some k)) after
       took_done o h q = let r = wrote_done T ws o after yes h q in rw r.1 (refl, r.2)
 
-      took_none : (o : Option Evaluation) → Wrote T ws o yes after → yes ≡ out_of_range → Steps T ws (took_at k o) (Fault k) after
+      took_none : (o : Option Evaluation) → Wrote T ws o yes after → yes ≡ out_of_range → Steps T ws (took_at k o) (Err (BadEntry k)) after
       took_none o h q = let r = wrote_out_of_range T ws o after yes h q in rw r.0 (refl, r.1)
 
-      pub take_done : yes ≡ done → Steps T ws (taken_from T k t e) (Took k) after
+      pub take_done : yes ≡ done → Steps T ws (taken_from T k t e) (Ok (Some k)) after
       take_done q = rw left.is (took_done (settled_to T k t left.out) left.wrote q)
 
-      pub take_fault : yes ≡ out_of_range → Steps T ws (taken_from T k t e) (Fault k) after
+      pub take_fault : yes ≡ out_of_range → Steps T ws (taken_from T k t e) (Err (BadEntry k)) after
       take_fault q = rw left.is (took_none (settled_to T k t left.out) left.wrote q)

@@ -1,6 +1,6 @@
 -- The loop over a list of readers: those up to i were told.
 -- Assumes nothing.
-use Rattle.std.specs.Prelude.{ℕ, ◌<◌, ◌≤◌, ◌+◌, ◌≡◌, refl, Bool, true, false, List, ◌∷◌, length, Option}
+use Rattle.std.specs.Prelude.{ℕ, ◌<◌, ◌≤◌, ◌+◌, ◌≡◌, refl, Bool, List, ◌∷◌, length, Option}
 use Rattle.std.proofs.Math.Numerals.{add-one}
 use Rattle.std.proofs.Math.Path.{ap}
 use Rattle.std.proofs.Common.{sym, ◌∙◌, drop_of_length-le, drop-cons}
@@ -54,7 +54,7 @@ module _ (T : Tables) (ws : List ℕ) (long : used T ≤ length ws) (k : ℕ) (t
       pub telling_stop : ok ≡ out_of_range → Wrote T ws whole out_of_range after
       telling_stop p =
           let r = wrote_out_of_range T kept (reader_updated T k t e (reading_of (get_or list i 0))) after ok w p in
-          wrote_then T ws kept e long kept_fits h.same whole false after (wrote_none T kept whole after (next ∙ rw r.0) r.1)
+          wrote_then T ws kept e long kept_fits h.same whole out_of_range after (wrote_none T kept whole after (next ∙ rw r.0) r.1)
 
       pub telling_more : ok ≡ done → Telling T ws k t list after (i + 1)
       telling_more p =

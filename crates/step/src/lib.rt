@@ -1,30 +1,20 @@
 // One step of a kept check: the lowest node of the worklist gets its truth, and its readers are told if that changed.
 #![tactic(auto)]
 
-ghost use Rattle.std.specs.Prelude.{◌≡◌, Bool, ◌+◌, ◌*◌, ◌<◌, ◌≤◌, length, get_or, set};
+ghost use Rattle.std.specs.Prelude.{◌≡◌, ◌+◌, ◌*◌, ◌<◌, ◌≤◌, length, get_or};
 ghost use Rattle.theory.specs.Limits.{Limited};
 ghost use Rattle.readers.specs.Reader.{reading_of};
 ghost use Rattle.readers.specs.ReaderTable.{reader_words};
 ghost use Rattle.kept.specs.Tables.{Tables};
-ghost use Rattle.kept.specs.Evaluation.{truth_word};
 ghost use Rattle.kept.specs.Layout.{of_words};
 ghost use Rattle.kept.specs.Step.{reader_updated, readers_updated, step};
 ghost use Rattle.kept_laws.specs.Given.{used_by, produced, told, walked};
 ghost use Rattle.kept_laws.specs.Wrote.{Wrote};
-ghost use Rattle.node_truth.specs.InWords.{seen_of};
 ghost use Rattle.step.specs.Steps.{Lent, settled_to, taken_from, Steps};
 
-use node_truth::Seen;
+use kept_laws::OutOfRange;
 use readers::Reader;
-use theory::Counts;
-
-// Nothing was on the worklist; a node was gone over; or refusal 17, at a place.
-#[derive(Clone, Copy)]
-pub enum Taking {
-    Idle,
-    Took(usize),
-    Fault(usize),
-}
+use theory::{Counts, Refusal};
 
 // A reader of node k, which has become true or false, is told. A word below the number of nodes is that node as a reader, the most frequent one.
 fn update_reader(
@@ -35,14 +25,14 @@ fn update_reader(
     k: usize,
     holds: bool,
     word: u64,
-) -> bool
+) -> Result<(), OutOfRange>
     requires { Limited counts × (made ≤ counts.roots) × (4 * counts.roots ≤ length producers.now) × (used_by counts ≤ length kept.old) }
     ensures { (T : Tables) → Wrote (produced counts made producers.now T) kept.old (reader_updated (produced counts made producers.now T) k holds (of_words (produced counts made producers.now T) kept.old) (reading_of word)) result kept.new }
 {
     if word < counts.nodes as u64 {
         let m = word as usize;
         if m <= k {
-            return false;
+            return Err(OutOfRange);
         }
         return retained::queue(counts, kept, m);
     }
@@ -50,13 +40,13 @@ fn update_reader(
     if p < made {
         let a = words::word(producers, 4 * p);
         if a >= counts.atoms {
-            return false;
+            return Err(OutOfRange);
         }
         return retained::support(counts, made, kept, a, holds);
     }
     let r = Reader(word).root_index() as usize;
     if r >= counts.roots {
-        return false;
+        return Err(OutOfRange);
     }
     retained::root(counts, kept, r, holds)
 }
@@ -70,31 +60,14 @@ fn update_readers(
     kept: &mut [u32],
     k: usize,
     holds: bool,
-) -> bool
+) -> Result<(), OutOfRange>
     requires { Limited counts × (made ≤ counts.roots) × (4 * counts.roots ≤ length producers.now) × (used_by counts ≤ length kept.old) }
     ensures { (T : Tables) → Wrote (produced counts made producers.now T) kept.old (readers_updated (produced counts made producers.now T) k holds (of_words (produced counts made producers.now T) kept.old) list.now) result kept.new }
 {
-    let mut i = 0;
-    while i < list.len() {
-        let word = list[i];
-        if !update_reader(counts, made, producers, kept, k, holds, word) {
-            return false;
-        }
-        i += 1;
+    for word in list {
+        update_reader(counts, made, producers, kept, k, holds, *word)?;
     }
-    true
-}
-
-// Node k becomes true or false.
-fn store(kept: &mut [u32], k: usize, holds: bool)
-    requires { 8 + k < length kept.old }
-    ensures { kept.new ≡ set kept.old (8 + k) (truth_word holds) }
-{
-    if holds {
-        kept[8 + k] = 1;
-    } else {
-        kept[8 + k] = 0;
-    }
+    Ok(())
 }
 
 // Node k, off the worklist, gets its truth; `from` is where its list of readers starts.
@@ -107,18 +80,18 @@ fn settle(
     k: usize,
     from: usize,
     holds: bool,
-) -> bool
+) -> Result<(), OutOfRange>
     requires { Limited counts × (made ≤ counts.roots) × (4 * counts.roots ≤ length producers.now) × (reader_words counts ≤ length readers.now) × (used_by counts ≤ length kept.old) × (k < counts.nodes) × (from ≡ get_or readers.now k 0) }
     ensures { (T : Tables) → Wrote (told counts made producers.now readers.now T) kept.old (settled_to (told counts made producers.now readers.now T) k holds (of_words (told counts made producers.now readers.now T) kept.old)) result kept.new }
 {
     if node_truth::holds(kept, k) == holds {
-        return true;
+        return Ok(());
     }
     if !readers::in_order_from(readers, readers::table_words(counts), k, from) {
-        return false;
+        return Err(OutOfRange);
     }
     let list = readers::list_from(readers, k, from);
-    store(kept, k, holds);
+    kept[8 + k] = u32::from(holds);
     update_readers(counts, made, producers, list, kept, k, holds)
 }
 
@@ -132,31 +105,20 @@ fn take(
     k: usize,
     from: usize,
     holds: bool,
-) -> Taking
+) -> Result<Option<usize>, Refusal>
     requires { Limited counts × (made ≤ counts.roots) × (4 * counts.roots ≤ length producers.now) × (reader_words counts ≤ length readers.now) × (used_by counts ≤ length kept.old) × (k < counts.nodes) × (get_or kept.old 5 0 ≡ k) × (from ≡ get_or readers.now k 0) }
     ensures { (T : Tables) → Steps (told counts made producers.now readers.now T) kept.old (taken_from (told counts made producers.now readers.now T) k holds (of_words (told counts made producers.now readers.now T) kept.old)) result kept.new }
 {
-    if !retained::dequeue(counts, kept, k) {
-        return Taking::Fault(0);
-    }
-    if settle(counts, made, producers, readers, kept, k, from, holds) {
-        Taking::Took(k)
-    } else {
-        Taking::Fault(k)
-    }
-}
-
-// The truth that was seen; of a stray node, false.
-fn is_true(seen: Option<bool>) -> bool
-    ensures { (x : Bool) → seen_of seen ≡ Some x → result ≡ x }
-{
-    match seen {
-        Some(true) => true,
-        _ => false,
+    let Ok(()) = retained::dequeue(counts, kept, k) else {
+        return Err(Refusal::BadEntry(0));
+    };
+    match settle(counts, made, producers, readers, kept, k, from, holds) {
+        Ok(()) => Ok(Some(k)),
+        Err(_) => Err(Refusal::BadEntry(k)),
     }
 }
 
-// One step: the first node of the worklist, if there is one.
+// One step: the first node of the worklist, if there is one; or refusal 17.
 pub fn step(
     counts: Counts,
     made: usize,
@@ -165,23 +127,22 @@ pub fn step(
     producers: &[u32],
     readers: &[u64],
     kept: &mut [u32],
-) -> Taking
+) -> Result<Option<usize>, Refusal>
     requires { Lent counts made (length nodes.now) (length operands.now) (length producers.now) (length readers.now) (length kept.old) }
     ensures { (T : Tables) → Steps (walked counts made nodes.now operands.now producers.now readers.now T) kept.old (step (walked counts made nodes.now operands.now producers.now readers.now T) (of_words (walked counts made nodes.now operands.now producers.now readers.now T) kept.old)) result kept.new }
 {
     let k = words::word(kept, 5);
     if k >= counts.nodes {
         if k == counts.nodes {
-            return Taking::Idle;
+            return Ok(None);
         }
-        return Taking::Fault(0);
+        return Err(Refusal::BadEntry(0));
     }
     // where its readers are listed, read before its truth: the truth takes longer to see
     let from = words::word64(readers, k);
     let seen = node_truth::node_truth(counts, nodes, operands, kept, k);
-    if let None = seen {
-        return Taking::Fault(k);
-    }
-    let holds = is_true(seen);
+    let Some(holds) = seen else {
+        return Err(Refusal::BadEntry(k));
+    };
     take(counts, made, producers, readers, kept, k, from, holds)
 }

@@ -1,13 +1,7 @@
-use Rattle.std.specs.Prelude.{None}
-use mathlib.Core.Path.{◌≡◌}
 use native.Mathlib.Omega.{arith}
 use Rattle.kept_laws.specs.Given.{walked}
 use Rattle.step.specs.StepLaws.{step_lost, step-none, step_stray, step_taken}
 use Rattle.step.proofs.step.Goals as goal
-use Rattle.step.proofs.step.Goals.{In_default}
-
-known : (c : In_default) → c.node_truth-seen.result ≡ None → ⊥
-known c e = c.in_default.not-Stray e
 
 pub returns-then-k-counts-2 : goal.returns-then-k-counts-2
 returns-then-k-counts-2 c = let g = c.args in λ T. step-none (walked g.counts g.made g.nodes.now g.operands.now g.producers.now g.readers.now T) g.kept.now _ c.word-k.ensures.value c.if-k-counts-2.true
@@ -15,8 +9,8 @@ returns-then-k-counts-2 c = let g = c.args in λ T. step-none (walked g.counts g
 pub returns-then-k-counts : goal.returns-then-k-counts
 returns-then-k-counts c = let g = c.args in λ T. step_lost (walked g.counts g.made g.nodes.now g.operands.now g.producers.now g.readers.now T) g.kept.now _ c.word-k.ensures.value (omega (arith, c.if-k-counts.true, c.if-k-counts-2.false))
 
-pub returns-in-Stray : goal.returns-in-Stray
-returns-in-Stray c = let g = c.args in λ T. step_stray (walked g.counts g.made g.nodes.now g.operands.now g.producers.now g.readers.now T) g.kept.now _ c.word-k.ensures.value c.requires.kept_long c.if-k-counts.false _ c.node_truth-seen.ensures c.in-Stray.is
+pub returns-in_default : goal.returns-in_default
+returns-in_default c = let g = c.args in λ T. step_stray (walked g.counts g.made g.nodes.now g.operands.now g.producers.now g.readers.now T) g.kept.now _ c.word-k.ensures.value c.requires.kept_long c.if-k-counts.false _ c.node_truth-seen.ensures c.in_default.is
 
 pub returns : goal.returns
-returns c = let g = c.args in λ T. step_taken (walked g.counts g.made g.nodes.now g.operands.now g.producers.now g.readers.now T) g.kept.now _ c.word-k.ensures.value c.requires.kept_long c.if-k-counts.false _ c.node_truth-seen.ensures (known (goal.at.returns c).In_default) _ c.is_true-holds.ensures _ _ (c.take.ensures (walked g.counts g.made g.nodes.now g.operands.now g.producers.now g.readers.now T))
+returns c = let g = c.args in λ T. step_taken (walked g.counts g.made g.nodes.now g.operands.now g.producers.now g.readers.now T) g.kept.now _ c.word-k.ensures.value c.requires.kept_long c.if-k-counts.false _ c.node_truth-seen.ensures _ c.in-Some.is _ _ (c.take.ensures (walked g.counts g.made g.nodes.now g.operands.now g.producers.now g.readers.now T))
