@@ -1,6 +1,6 @@
 -- What each branch on the lowest false root and the lowest missing atom tells.
 -- Assumes nothing.
-use Rattle.std.specs.Prelude.{ℕ, ◌<◌, ◌≤◌, ◌-◌, ◌≡◌, refl, Bool, true, false, List, eqb, ltb, length, get_or, take, drop, Option, Some, None}
+use Rattle.std.specs.Prelude.{ℕ, ◌<◌, ◌≤◌, ◌-◌, ◌≡◌, refl, Bool, true, false, List, eqb, ltb, length, get_or, take, drop, Option, Some, None, Result, Ok, Err}
 use Rattle.std.proofs.Common.{arith, sym, ◌∙◌, ltb-true}
 use Rattle.std.proofs.Math.Path.{ap}
 use Rattle.std.proofs.Math.Bool.{cond}
@@ -16,8 +16,7 @@ use Rattle.kept_laws.specs.Exits.{lookup-none, lookup_found, lookup_astray}
 use Rattle.kept_laws.specs.Given.{bare, sized, rooted}
 use Rattle.kept_laws.specs.Written.{get_missing_size, get-false_roots-size, part_missing, part-false_roots}
 use Rattle.verdict.specs.Told.{lookup_of}
-use Rattle.verdict.specs.declared.Lookup.{Lookup}
-use Rattle.verdict.specs.declared.Lookup.TheVariants.{Empty, At, Astray}
+use Rattle.kept_laws.specs.declared.OutOfRange.{OutOfRange}
 
 -- ---- the lowest member
 
@@ -38,7 +37,7 @@ lookup_below n i k s = go (eqb s.size 0) (ltb (next 32 s.members i) n) refl
     go false false h e = let z : ◌≡◌ {A = ℕ} 0 1 = cc in absurd (omega arith)
     go false true h e = let q : next 32 s.members i ≡ k = cc in omega (arith, ltb-true (next 32 s.members i) n h)
 
-pub told_below : (t : Counts) (n k : ℕ) (s : Tables → CountedSet) (r : Lookup) → ((T : Tables) → lookup_of r ≡ lookup n 0 (s T)) → r ≡ At k → k < n
+pub told_below : (t : Counts) (n k : ℕ) (s : Tables → CountedSet) (r : Result (Option ℕ) OutOfRange) → ((T : Tables) → lookup_of r ≡ lookup n 0 (s T)) → r ≡ Ok (Some k) → k < n
 told_below t n k s r p q = lookup_below n 0 k (s (bare t)) (sym (p (bare t)) ∙ ap lookup_of q)
 
 -- ---- a set lent as a slice, with its count in the header
@@ -61,7 +60,7 @@ module _ (T : Tables) (ws : List ℕ) where
 
 -- ---- the verdict, whatever the rest of the tables is
 
-module _ (t : Counts) (roots ws : List ℕ) (f : Lookup) (p : (T : Tables) → lookup_of f ≡ lookup t.roots 0 (of_words (sized t T) ws).false_roots) where
+module _ (t : Counts) (roots ws : List ℕ) (f : Result (Option ℕ) OutOfRange) (p : (T : Tables) → lookup_of f ≡ lookup t.roots 0 (of_words (sized t T) ws).false_roots) where
   abbrev With : Tables → Tables
   With T = rooted t roots T
 
@@ -71,30 +70,30 @@ module _ (t : Counts) (roots ws : List ℕ) (f : Lookup) (p : (T : Tables) → l
   abbrev missing : Tables → sets.Lookup
   missing T = lookup t.atoms 0 (of_words (With T) ws).missing
 
-  judged-by : (l : Lookup) → f ≡ l → (T : Tables) → judged (With T) (lookup_of l) (missing T) ≡ told T
+  judged-by : (l : Result (Option ℕ) OutOfRange) → f ≡ l → (T : Tables) → judged (With T) (lookup_of l) (missing T) ≡ told T
   unfolding verdict_of
   judged-by l q T = ap (λ x. judged (With T) x (missing T)) (ap lookup_of (sym q) ∙ p (With T))
 
-  pub not_model_lem : (k x : ℕ) → f ≡ At k → x ≡ get_or roots k 0 → (T : Tables) → cond (ltb x t.nodes) (Some (verdicts.not_model x)) None ≡ told T
+  pub not_model_lem : (k x : ℕ) → f ≡ Ok (Some k) → x ≡ get_or roots k 0 → (T : Tables) → cond (ltb x t.nodes) (Some (verdicts.not_model x)) None ≡ told T
   unfolding judged
-  not_model_lem k x q r T = ap (λ y. cond (ltb y t.nodes) (Some (verdicts.not_model y)) None) r ∙ judged-by (At k) q T
+  not_model_lem k x q r T = ap (λ y. cond (ltb y t.nodes) (Some (verdicts.not_model y)) None) r ∙ judged-by (Ok (Some k)) q T
 
-  pub roots_astray : f ≡ Astray → (T : Tables) → None ≡ told T
+  pub roots_astray : (x : OutOfRange) → f ≡ Err x → (T : Tables) → None ≡ told T
   unfolding judged
-  roots_astray q T = judged-by Astray q T
+  roots_astray x q T = judged-by (Err x) q T
 
-  module _ (model : f ≡ Empty) (m : Lookup) (o : (T : Tables) → lookup_of m ≡ lookup t.atoms 0 (of_words (sized t T) ws).missing) where
-    left_by : (l : Lookup) → m ≡ l → (T : Tables) → judged (With T) sets.empty (lookup_of l) ≡ told T
-    left_by l q T = ap (λ x. judged (With T) sets.empty x) (ap lookup_of (sym q) ∙ o (With T)) ∙ judged-by Empty model T
+  module _ (model : f ≡ Ok None) (m : Result (Option ℕ) OutOfRange) (o : (T : Tables) → lookup_of m ≡ lookup t.atoms 0 (of_words (sized t T) ws).missing) where
+    left_by : (l : Result (Option ℕ) OutOfRange) → m ≡ l → (T : Tables) → judged (With T) sets.empty (lookup_of l) ≡ told T
+    left_by l q T = ap (λ x. judged (With T) sets.empty x) (ap lookup_of (sym q) ∙ o (With T)) ∙ judged-by (Ok None) model T
 
-    pub residual_of_lem : (a : ℕ) → m ≡ At a → (T : Tables) → Some (verdicts.residual a) ≡ told T
+    pub residual_of_lem : (a : ℕ) → m ≡ Ok (Some a) → (T : Tables) → Some (verdicts.residual a) ≡ told T
     unfolding judged
-    residual_of_lem a q T = left_by (At a) q T
+    residual_of_lem a q T = left_by (Ok (Some a)) q T
 
-    pub missing_astray : m ≡ Astray → (T : Tables) → None ≡ told T
+    pub missing_astray : (x : OutOfRange) → m ≡ Err x → (T : Tables) → None ≡ told T
     unfolding judged
-    missing_astray q T = left_by Astray q T
+    missing_astray x q T = left_by (Err x) q T
 
-    pub stable_of : m ≡ Empty → (T : Tables) → Some verdicts.stable ≡ told T
+    pub stable_of : m ≡ Ok None → (T : Tables) → Some verdicts.stable ≡ told T
     unfolding judged
-    stable_of q T = left_by Empty q T
+    stable_of q T = left_by (Ok None) q T
