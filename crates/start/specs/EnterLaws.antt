@@ -1,6 +1,6 @@
 -- The nodes of a list, entered one after the other.
 -- Assumes nothing.
-use Rattle.std.specs.Prelude.{ℕ, ◌<◌, ◌≤◌, ◌+◌, ◌≡◌, refl, Bool, true, false, List, [], ◌∷◌, length, get_or, drop, Option, Some, None}
+use Rattle.std.specs.Prelude.{ℕ, ◌<◌, ◌≤◌, ◌+◌, ◌≡◌, refl, List, [], ◌∷◌, length, get_or, drop, Option, Some, None}
 use Rattle.std.proofs.Common.{add-one, ap, ◌∙◌, drop-cons, lt-ltb, le-ltb}
 use Rattle.std.proofs.Math.Seq.{drop-length}
 use Rattle.kept.specs.CountedSet.{and_then}
@@ -30,7 +30,7 @@ module _ (T : Tables) (ws list : List ℕ) where
   abbrev pub Entering : List ℕ → ℕ → Type 0
   Entering mid i = Onward T ws (all_entered T (of_words T ws) list) mid (all_entered T (of_words T mid) (drop i list))
 
-  abbrev Whole : Bool → List ℕ → Type 0
+  abbrev Whole : Changing → List ℕ → Type 0
   Whole r after = Wrote T ws (all_entered T (of_words T ws) list) r after
 
   module _ (room : used T ≤ length ws) where

@@ -1,6 +1,6 @@
 -- A pair's words laid into the lent words, then its changed atoms moved: these atoms are turned.
 -- Assumes nothing.
-use Rattle.std.specs.Prelude.{ℕ, ◌<◌, ◌≤◌, ◌+◌, ◌*◌, ◌/◌, ◌%◌, ◌^◌, ◌≡◌, Bool, true, List, length, set}
+use Rattle.std.specs.Prelude.{ℕ, ◌<◌, ◌≤◌, ◌+◌, ◌*◌, ◌/◌, ◌%◌, ◌^◌, ◌≡◌, true, List, length, set}
 use Rattle.std.proofs.Common.{arith, ap, sym, ◌∙◌, ⊎_elim, length-set, pow_pos, lt-ltb, le-ltb}
 use Rattle.std.specs.Int.Bits.{bit_xor}
 use Rattle.std.proofs.Math.ListN.{get_or-eq_default}

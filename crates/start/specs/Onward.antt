@@ -1,6 +1,6 @@
 -- A call that enters nodes, while it runs: what is written so far, and what is left to do.
 -- Assumes nothing.
-use Rattle.std.specs.Prelude.{ℕ, ◌≤◌, ◌≡◌, refl, Bool, true, false, List, length, Option, Some, None}
+use Rattle.std.specs.Prelude.{ℕ, ◌≤◌, ◌≡◌, refl, List, length, Option, Some, None}
 use Rattle.std.proofs.Common.{ap, sym, ◌∙◌}
 use Rattle.kept.specs.CountedSet.{and_then}
 use Rattle.kept.specs.Tables.{Tables}

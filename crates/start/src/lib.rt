@@ -21,38 +21,39 @@ ghost use Rattle.kept_laws.specs.Wrote.{Wrote};
 ghost use Rattle.difference.specs.Marks.{Marked, Between};
 ghost use Rattle.start.specs.Moved.{atom_moved, pair_laid};
 
+use kept_laws::OutOfRange;
 use theory::Counts;
 
-// The nodes listed onto the worklist; false is refusal 17, here and below.
-fn enter_all(counts: Counts, list: &[u64], kept: &mut [u32]) -> bool
+// The nodes listed onto the worklist; Err is refusal 17, here and below.
+fn enter_all(counts: Counts, list: &[u64], kept: &mut [u32]) -> Result<(), OutOfRange>
     requires { Limited counts × (used_by counts ≤ length kept.old) }
     ensures { (T : Tables) → Wrote (sized counts T) kept.old (all_entered (sized counts T) (of_words (sized counts T) kept.old) list.now) result kept.new }
 {
-    let mut i = 0;
-    while i < list.len() {
-        let m = words::word64(list, i);
+    for word in list {
+        let m = *word as usize;
         if m >= counts.nodes {
-            return false;
+            return Err(OutOfRange);
         }
-        if !retained::queue(counts, kept, m) {
-            return false;
-        }
-        i += 1;
+        retained::queue(counts, kept, m)?;
     }
-    true
+    Ok(())
 }
 
 // Atom a becomes missing or not, and its atom nodes go onto the worklist; the candidate has it already.
-fn turn_atom(counts: Counts, readers: &[u64], kept: &mut [u32], a: usize, x: bool) -> bool
+fn turn_atom(
+    counts: Counts,
+    readers: &[u64],
+    kept: &mut [u32],
+    a: usize,
+    x: bool,
+) -> Result<(), OutOfRange>
     requires { Limited counts × (reader_words counts ≤ length readers.now) × (used_by counts ≤ length kept.old) × (a < counts.atoms) }
     ensures { (T : Tables) (J : Interpretation) → J a ≡ x → Wrote (listed counts readers.now T) kept.old (atom_moved (listed counts readers.now T) J a (of_words (listed counts readers.now T) kept.old)) result kept.new }
 {
-    if !retained::presence(counts, kept, a, x) {
-        return false;
-    }
+    retained::presence(counts, kept, a, x)?;
     let listed = readers::table_words(counts);
     if !readers::in_order(readers, listed, counts.nodes + 1 + a) {
-        return false;
+        return Err(OutOfRange);
     }
     enter_all(
         counts,
@@ -86,7 +87,13 @@ fn lay_pair(counts: Counts, kept: &mut [u32], j: usize, new: u64)
 }
 
 // The atoms of words 2 j and 2 j + 1, taken as one, become as `new` has them, the candidate first: one loop for both, as one of the two often has no change.
-fn turn_pair(counts: Counts, readers: &[u64], kept: &mut [u32], j: usize, new: u64) -> bool
+fn turn_pair(
+    counts: Counts,
+    readers: &[u64],
+    kept: &mut [u32],
+    j: usize,
+    new: u64,
+) -> Result<(), OutOfRange>
     requires limited { Limited counts × (reader_words counts ≤ length readers.now) × (used_by counts ≤ length kept.old) × (j < words64 counts.atoms) }
     requires k_bound { (T : Tables) (k : ℕ) → k < 64 → unlike (present (of_words (listed counts readers.now T) kept.old) (j * 64 + k)) (bit new k) ≡ true → j * 64 + k < counts.atoms }
     ensures { (T : Tables) (J : Interpretation) → ((k : ℕ) → k < 64 → J (j * 64 + k) ≡ bit new k) → Wrote (listed counts readers.now T) kept.old (all_turned (listed counts readers.now T) J (places (λ a. unlike (present (of_words (listed counts readers.now T) kept.old) a) (J a)) (j * 64) 64) (of_words (listed counts readers.now T) kept.old)) result kept.new }
@@ -96,12 +103,10 @@ fn turn_pair(counts: Counts, readers: &[u64], kept: &mut [u32], j: usize, new: u
     loop {
         let k = words::bits(x, 0);
         if k == 64 {
-            return true;
+            return Ok(());
         }
         let a = j * 64 + k as usize;
-        if !turn_atom(counts, readers, kept, a, (new >> k) % 2 == 1) {
-            return false;
-        }
+        turn_atom(counts, readers, kept, a, (new >> k) % 2 == 1)?;
         x = x & (x - 1);
     }
 }
@@ -115,7 +120,7 @@ pub fn start(
     marks: &[u64],
     first: usize,
     end: usize,
-) -> bool
+) -> Result<(), OutOfRange>
     requires limited { Limited counts × (length candidate.now ≡ words64 counts.atoms) × (reader_words counts ≤ length readers.now) × (used_by counts ≤ length kept.old) × Marked counts kept.old candidate.now marks.now × (words64 counts.atoms ≤ 64 * length marks.now) × (length marks.now ≤ 16) }
     requires within { Within counts.atoms (member 64 candidate.now) × ((T : Tables) → Within counts.atoms (present (of_words (sized counts T) kept.old))) }
     requires between { Between counts kept.old candidate.now first end }
@@ -123,13 +128,11 @@ pub fn start(
 {
     let mut j = first;
     while j < end {
-        if !turn_pair(counts, readers, kept, j, candidate[j]) {
-            return false;
-        }
+        turn_pair(counts, readers, kept, j, candidate[j])?;
         if j + 1 == end {
-            return true;
+            return Ok(());
         }
         j = words::set64::next(marks, j + 1);
     }
-    true
+    Ok(())
 }

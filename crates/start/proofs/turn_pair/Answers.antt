@@ -1,3 +1,4 @@
+use Rattle.base.specs.Raised.{raised}
 use native.Mathlib.Omega.{arith}
 use mathlib.Core.Path.{refl, ap}
 use lib.ListN.{length}
@@ -6,7 +7,6 @@ use Rattle.words.specs.PlaceLaws.{place_below, place_set, place_some, place_off}
 use Rattle.words.specs.TakeOffLaws.{off_small, off_set}
 use Rattle.kept.specs.Tables.{Tables}
 use Rattle.kept_laws.specs.Given.{bare, listed}
-use Rattle.kept_laws.specs.OptionLaws.{not-true, not-false}
 use Rattle.start.specs.WordLaws.{place_read, turning_first, turning_done, turning_stray, turning_more}
 use Rattle.start.specs.PairLaws.{pair_within}
 use Rattle.start.specs.LaidPair.{pair_turned}
@@ -53,12 +53,12 @@ turn_atom-requires c = (
   c.loop-counts.invariant.1 _ (place_below 64 _ _ c.bits-k.ensures c.if-k-eq64.false) (place_set 64 _ _ c.bits-k.ensures c.if-k-eq64.false),
 )
 
-pub returns-then-not-turn_atom : goal.returns-then-not-turn_atom
-returns-then-not-turn_atom c = λ T J same.
+pub returns-in_err-turn_atom : goal.returns-in_err-turn_atom
+returns-in_err-turn_atom c = λ T J same.
     let t = listed c.args.counts c.args.readers.now T in
-    pair_turned t c.args.kept.now c.requires.limited.2 (λ k. omega (arith, c.slice_known-1.given k)) c.args.j _ c.ranges.new.fits c.requires.limited.3 _
+    rw (raised _ _ c.from_residual.ensures.1) (pair_turned t c.args.kept.now c.requires.limited.2 (λ k. omega (arith, c.slice_known-1.given k)) c.args.j _ c.ranges.new.fits c.requires.limited.3 _
     c.lay_pair.ensures (c.requires.k_bound T) J same _ (c.old_pair.ensures t) _ _
-    (turning_stray t J 64 _ c.args.j _ (omega (arith, c.requires.limited.2, c.lay_pair.auto.kept)) _ _ (c.loop-counts.invariant.0 T J same) _ c.bits-k.ensures c.if-k-eq64.false c.loop-counts.invariant.3 _ _ (c.turn_atom.ensures T J (place_read _ _ _ (same _ (place_below 64 _ _ c.bits-k.ensures c.if-k-eq64.false)))) (not-true _ c.if-not-turn_atom.true-raw))
+    (turning_stray t J 64 _ c.args.j _ (omega (arith, c.requires.limited.2, c.lay_pair.auto.kept)) _ _ (c.loop-counts.invariant.0 T J same) _ c.bits-k.ensures c.if-k-eq64.false c.loop-counts.invariant.3 _ _ (c.turn_atom.ensures T J (place_read _ _ _ (same _ (place_below 64 _ _ c.bits-k.ensures c.if-k-eq64.false)))) c.in_err-turn_atom.was))
 
 pub overflow_sub-x : goal.overflow_sub-x
 overflow_sub-x c = place_some 64 _ _ c.bits-k.ensures c.if-k-eq64.false
@@ -70,7 +70,7 @@ pub loop-counts-preserved : goal.loop-counts-preserved
 loop-counts-preserved c = (
   λ T J same.
       turning_more (listed c.args.counts c.args.readers.now T) J 64 _ c.args.j _ (omega (arith, c.requires.limited.2, c.lay_pair.auto.kept)) _ _ (c.loop-counts.invariant.0 T J same) _
-      c.bits-k.ensures c.if-k-eq64.false c.loop-counts.invariant.3 _ _ (c.turn_atom.ensures T J (place_read _ _ _ (same _ (place_below 64 _ _ c.bits-k.ensures c.if-k-eq64.false)))) (not-false _ c.if-not-turn_atom.false-raw),
+      c.bits-k.ensures c.if-k-eq64.false c.loop-counts.invariant.3 _ _ (c.turn_atom.ensures T J (place_read _ _ _ (same _ (place_below 64 _ _ c.bits-k.ensures c.if-k-eq64.false)))) c.in_ok-turn_atom.was,
   λ k l e. c.loop-counts.invariant.1 k l (off_set _ k e),
   omega (arith, c.loop-counts.invariant.2, c.turn_atom.auto.kept),
   off_small 64 _ c.loop-counts.invariant.3,
