@@ -4,12 +4,22 @@
 ghost use Rattle.std.specs.Prelude.{◌≡◌};
 ghost use Rattle.theory.specs.Limits.{Limited};
 ghost use Rattle.kept_laws.specs.Given.{support_at, candidate_at, missing_at, false_roots_at, groups_at};
+ghost use Rattle.theory.specs.declared.Refusal.TheVariants.{BadEntry};
 
-use theory::Counts;
+use theory::{Counts, Refusal};
 
 // A count or an entry that was met is out of its range: refusal 17, whose place the caller knows.
 #[derive(Clone, Copy)]
 pub struct OutOfRange;
+
+// Where no node is being read, the place is 0.
+impl From<OutOfRange> for Refusal {
+    ghost from_gives = { λ _ r. r ≡ BadEntry 0 };
+
+    fn from(_met: OutOfRange) -> Refusal {
+        Refusal::BadEntry(0)
+    }
+}
 
 pub fn support_at(counts: Counts) -> usize
     requires { Limited counts }

@@ -109,9 +109,7 @@ fn take(
     requires { Limited counts × (made ≤ counts.roots) × (4 * counts.roots ≤ length producers.now) × (reader_words counts ≤ length readers.now) × (used_by counts ≤ length kept.old) × (k < counts.nodes) × (get_or kept.old 5 0 ≡ k) × (from ≡ get_or readers.now k 0) }
     ensures { (T : Tables) → Steps (told counts made producers.now readers.now T) kept.old (taken_from (told counts made producers.now readers.now T) k holds (of_words (told counts made producers.now readers.now T) kept.old)) result kept.new }
 {
-    let Ok(()) = retained::dequeue(counts, kept, k) else {
-        return Err(Refusal::BadEntry(0));
-    };
+    retained::dequeue(counts, kept, k)?;
     match settle(counts, made, producers, readers, kept, k, from, holds) {
         Ok(()) => Ok(Some(k)),
         Err(_) => Err(Refusal::BadEntry(k)),
