@@ -1,6 +1,6 @@
 -- The loops over nodes, producers, roots and the atoms that lack support: how each begins, goes on, stops and ends.
 -- Assumes nothing.
-use Rattle.std.specs.Prelude.{ℕ, suc, ◌<◌, ◌≤◌, ◌+◌, ◌-◌, ◌≡◌, Bool, true, false, List, length, replicate, Some, Err}
+use Rattle.std.specs.Prelude.{ℕ, suc, ◌<◌, ◌≤◌, ◌+◌, ◌-◌, ◌≡◌, true, List, length, replicate, Some, Err}
 use Rattle.std.proofs.Common.{arith, sym, ◌∙◌}
 use Rattle.std.proofs.Math.Path.{ap}
 use Rattle.base.specs.Places.{Lowest}
@@ -12,7 +12,7 @@ use Rattle.kept.specs.Check.{node_entry, producer_entry, root_entry}
 use Rattle.kept.specs.Layout.{of_words, written, used}
 use Rattle.kept.specs.LayoutLaws.{Fits, fits_of}
 use Rattle.kept_laws.specs.Written.{written_same, written_again}
-use Rattle.kept_laws.specs.Wrote.{Wrote, mid_holds}
+use Rattle.kept_laws.specs.Wrote.{Wrote, mid_holds, Changing, done, out_of_range}
 use Rattle.retained.specs.Changes.{missing_turned}
 use Rattle.complete.specs.Laid.{Laid}
 use Rattle.complete.specs.Phases.{truth_set, truths_laid, producer_counted, support_laid, lacks, missing_laid, root_laid, roots_laid}
@@ -52,11 +52,11 @@ module _ (T : Tables) (ws : List ℕ) (long : used T ≤ length ws) where
   pub truths_done : (k : ℕ) (mid : List ℕ) → Truths T ws k mid → node_count T ≤ k → k ≤ node_count T → Laid T ws (first_refusal (node_entry T (present e)) 0 (node_count T)) (truths_laid T e) admitted mid
   truths_done k mid r l m = run_done T ws long (node_count T) (risen T e) (node_entry T (present e)) k mid (truths_laid T e) (risen_fits T e fits) r l m (risen_all T e fits)
 
-  module _ (k : ℕ) (l : k < node_count T) (mid : List ℕ) (r : Truths T ws k mid) (ok : Bool) (after : List ℕ) (w : Wrote T mid (truth_set T k (of_words T mid)) ok after) where
-    pub truths_next : ok ≡ true → Truths T ws (k + 1) after
+  module _ (k : ℕ) (l : k < node_count T) (mid : List ℕ) (r : Truths T ws k mid) (ok : Changing) (after : List ℕ) (w : Wrote T mid (truth_set T k (of_words T mid)) ok after) where
+    pub truths_next : ok ≡ done → Truths T ws (k + 1) after
     truths_next = run_next T ws long (node_count T) (risen T e) (node_entry T (present e)) (truth_set T) (λ j. j) (risen_fits T e fits) k l (risen_turn T e fits k l) mid r ok after w
 
-    pub truths_stop : ok ≡ false → (d : Evaluation) → Laid T ws (first_refusal (node_entry T (present e)) 0 (node_count T)) d (Err (BadEntry k)) after
+    pub truths_stop : ok ≡ out_of_range → (d : Evaluation) → Laid T ws (first_refusal (node_entry T (present e)) 0 (node_count T)) d (Err (BadEntry k)) after
     truths_stop = run_stop T ws long (node_count T) (risen T e) (node_entry T (present e)) (truth_set T) (λ j. j) (risen_fits T e fits) k l (risen_turn T e fits k l) mid r ok after w
 
   -- ---- producers
@@ -67,11 +67,11 @@ module _ (T : Tables) (ws : List ℕ) (long : used T ≤ length ws) where
   pub supports_done : (p : ℕ) (mid : List ℕ) → Supports T ws p mid → T.made ≤ p → p ≤ T.made → Laid T ws (first_refusal (producer_entry T) 0 T.made) (support_laid T e) admitted mid
   supports_done p mid r l m = run_done T ws long T.made (supplied T e) (producer_entry T) p mid (support_laid T e) (λ k i. supplied_fits T e fits k) r l m (supplied_all T e)
 
-  module _ (p : ℕ) (l : p < T.made) (mid : List ℕ) (r : Supports T ws p mid) (ok : Bool) (after : List ℕ) (w : Wrote T mid (producer_counted T p (of_words T mid)) ok after) where
-    pub supports_next : ok ≡ true → Supports T ws (p + 1) after
+  module _ (p : ℕ) (l : p < T.made) (mid : List ℕ) (r : Supports T ws p mid) (ok : Changing) (after : List ℕ) (w : Wrote T mid (producer_counted T p (of_words T mid)) ok after) where
+    pub supports_next : ok ≡ done → Supports T ws (p + 1) after
     supports_next = run_next T ws long T.made (supplied T e) (producer_entry T) (producer_counted T) (λ j. 0) (λ k i. supplied_fits T e fits k) p l (supplied_turn T e p) mid r ok after w
 
-    pub supports_stop : ok ≡ false → (d : Evaluation) → Laid T ws (first_refusal (producer_entry T) 0 T.made) d (Err (BadEntry 0)) after
+    pub supports_stop : ok ≡ out_of_range → (d : Evaluation) → Laid T ws (first_refusal (producer_entry T) 0 T.made) d (Err (BadEntry 0)) after
     supports_stop = run_stop T ws long T.made (supplied T e) (producer_entry T) (producer_counted T) (λ j. 0) (λ k i. supplied_fits T e fits k) p l (supplied_turn T e p) mid r ok after w
 
   -- ---- roots
@@ -82,11 +82,11 @@ module _ (T : Tables) (ws : List ℕ) (long : used T ≤ length ws) where
   pub fails_done : (p : ℕ) (mid : List ℕ) → Fails T ws p mid → root_count T ≤ p → p ≤ root_count T → Laid T ws (first_refusal (root_entry T) 0 (root_count T)) (roots_laid T e) admitted mid
   fails_done p mid r l m = run_done T ws long (root_count T) (failed T e) (root_entry T) p mid (roots_laid T e) (λ k i. failed_fits T e fits k) r l m (failed_all T e)
 
-  module _ (p : ℕ) (l : p < root_count T) (mid : List ℕ) (r : Fails T ws p mid) (ok : Bool) (after : List ℕ) (w : Wrote T mid (root_laid T p (of_words T mid)) ok after) where
-    pub fails_next : ok ≡ true → Fails T ws (p + 1) after
+  module _ (p : ℕ) (l : p < root_count T) (mid : List ℕ) (r : Fails T ws p mid) (ok : Changing) (after : List ℕ) (w : Wrote T mid (root_laid T p (of_words T mid)) ok after) where
+    pub fails_next : ok ≡ done → Fails T ws (p + 1) after
     fails_next = run_next T ws long (root_count T) (failed T e) (root_entry T) (root_laid T) (λ j. 0) (λ k i. failed_fits T e fits k) p l (failed_turn T e p l) mid r ok after w
 
-    pub fails_stop : ok ≡ false → (d : Evaluation) → Laid T ws (first_refusal (root_entry T) 0 (root_count T)) d (Err (BadEntry 0)) after
+    pub fails_stop : ok ≡ out_of_range → (d : Evaluation) → Laid T ws (first_refusal (root_entry T) 0 (root_count T)) d (Err (BadEntry 0)) after
     fails_stop = run_stop T ws long (root_count T) (failed T e) (root_entry T) (root_laid T) (λ j. 0) (λ k i. failed_fits T e fits k) p l (failed_turn T e p l) mid r ok after w
 
   -- ---- the atoms that lack support
@@ -102,7 +102,7 @@ module _ (T : Tables) (ws : List ℕ) (long : used T ≤ length ws) where
   pub lacks_done : (a : ℕ) (mid : List ℕ) → Lacks T ws a mid → atom_count T ≤ a → mid ≡ written T ws (missing_laid T e)
   lacks_done a mid r l = r.holds ∙ ap (written T ws) (lacking_all T e a l)
 
-  module _ (a : ℕ) (l : a < atom_count T) (mid : List ℕ) (r : Lacks T ws a mid) (ok : Bool) (after : List ℕ) (w : Wrote T mid (missing_turned T a true (of_words T mid)) ok after) where
+  module _ (a : ℕ) (l : a < atom_count T) (mid : List ℕ) (r : Lacks T ws a mid) (ok : Changing) (after : List ℕ) (w : Wrote T mid (missing_turned T a true (of_words T mid)) ok after) where
     gone : after ≡ written T ws (lacking T e (suc a))
     gone =
         let held : of_words T mid ≡ lacking T e a = mid_holds T ws mid (lacking T e a) long (lacking_fits T e fits a) r.holds in

@@ -1,6 +1,6 @@
 -- The phases of a fresh check as changes of an evaluation.
 -- Assumes nothing.
-use Rattle.std.specs.Prelude.{ℕ, suc, ◌+◌, ◌≡◌, Bool, true, false, cond, ◌&&◌, List, eqb, ltb, leb, get_or, set, replicate, Option, Some, None}
+use Rattle.std.specs.Prelude.{ℕ, suc, ◌+◌, ◌≡◌, Bool, false, cond, ◌&&◌, List, eqb, ltb, leb, get_or, set, replicate, Option, Some, None}
 use Rattle.theory.specs.declared.Counts.{Counts}
 use Rattle.kept.specs.Tabulate.{tabulate}
 use Rattle.kept.specs.SetOf.{words32}
@@ -13,6 +13,7 @@ use Rattle.kept.specs.Step.{root_turned}
 use Rattle.kept.specs.Layout.{of_words}
 use Rattle.kept_laws.specs.Given.{sized, planned}
 use Rattle.words.specs.Halves.{half}
+use Rattle.kept_laws.specs.Wrote.{Changing, done, out_of_range}
 
 -- ---- what a phase is lent
 
@@ -82,9 +83,9 @@ begun T truths candidate =
 -- ---- truth
 
 -- the word of node k gets a truth that was read; ok tells whether there is one
-abbrev pub Stored : List ℕ → ℕ → Option Bool → Bool → List ℕ → Type 0
-Stored ws k None ok after = (ok ≡ false) × (after ≡ ws)
-Stored ws k (Some t) ok after = (ok ≡ true) × (after ≡ set ws (8 + k) (truth_word t))
+abbrev pub Stored : List ℕ → ℕ → Option Bool → Changing → List ℕ → Type 0
+Stored ws k None ok after = (ok ≡ out_of_range) × (after ≡ ws)
+Stored ws k (Some t) ok after = (ok ≡ done) × (after ≡ set ws (8 + k) (truth_word t))
 
 -- node k by the lower ones
 unfoldable pub truth_set : Tables → ℕ → Evaluation → Option Evaluation

@@ -1,7 +1,7 @@
 -- A loop of steps, each of which writes the next evaluation or is the first refusal.
 -- Assumes nothing.
-use Rattle.std.specs.Prelude.{ℕ, suc, ◌<◌, ◌≤◌, ◌+◌, ◌-◌, ◌≡◌, ◌⊎◌, Bool, true, false, List, length, Option, Some, None, Err}
-use Rattle.std.proofs.Common.{add-one, arith, ap, sym, ◌∙◌, ⊎_elim, true≢false}
+use Rattle.std.specs.Prelude.{ℕ, suc, ◌<◌, ◌≤◌, ◌+◌, ◌-◌, ◌≡◌, ◌⊎◌, List, length, Option, Some, None, Err}
+use Rattle.std.proofs.Common.{add-one, arith, ap, sym, ◌∙◌, ⊎_elim}
 use Rattle.std.proofs.Math.Nat.{sub-zero}
 use Rattle.theory.specs.Admission.{first_refusal, Admission, admitted}
 use Rattle.theory.specs.Refusals.{first_stop, first_go, first_done, not_both}
@@ -11,7 +11,7 @@ use Rattle.kept.specs.Evaluation.{Evaluation}
 use Rattle.kept.specs.Layout.{of_words, written, used}
 use Rattle.kept.specs.LayoutLaws.{Fits}
 use Rattle.kept_laws.specs.Written.{written_same, written_again}
-use Rattle.kept_laws.specs.Wrote.{Wrote, Beside, beside_then, beside_written, mid_holds}
+use Rattle.kept_laws.specs.Wrote.{apart, Wrote, Beside, beside_then, beside_written, mid_holds, Changing, done, out_of_range}
 use Rattle.complete.specs.Laid.{Laid}
 
 -- after k of n steps: the words hold state k, and none was refused
@@ -34,28 +34,28 @@ module _ (T : Tables) (ws : List ℕ) (long : used T ≤ length ws) (n : ℕ) (s
       (first_done entry k n (first_refusal entry 0 n) r.left l, λ a. w ∙ ap (written T ws) q, rw w (beside_written T ws (state n) long (fits n (omega arith))))
 
   module _ (step : ℕ → Evaluation → Option Evaluation) (place : ℕ → ℕ) (fits : (k : ℕ) → k ≤ n → Fits T (state k)) (k : ℕ) (l : k < n) (turn : Turn state entry step place k)
-      (mid : List ℕ) (r : Run T ws n state entry k mid) (ok : Bool) (after : List ℕ) (w : Wrote T mid (step k (of_words T mid)) ok after) where
+      (mid : List ℕ) (r : Run T ws n state entry k mid) (ok : Changing) (after : List ℕ) (w : Wrote T mid (step k (of_words T mid)) ok after) where
     here : Wrote T mid (step k (state k)) ok after
     here = rw (mid_holds T ws mid (state k) long (fits k (omega arith)) r.holds) at w
 
     beside : Beside T ws mid
     beside = rw r.holds (beside_written T ws (state k) long (fits k (omega arith)))
 
-    pub run_next : ok ≡ true → Run T ws n state entry (k + 1) after
+    pub run_next : ok ≡ done → Run T ws n state entry (k + 1) after
     run_next t = ⊎_elim
         (λ h. record {
           holds = made (rw h.1 at here).1;
           left = first_go entry k n (first_refusal entry 0 n) r.left l h.0;
         })
-        (λ h. absurd (true≢false (sym t ∙ (rw h.1 at here).0)))
+        (λ h. absurd (apart (sym (rw h.1 at here).0 ∙ t)))
         turn
       where
         made : after ≡ written T mid (state (suc k)) → after ≡ written T ws (state (k + 1))
         made p = p ∙ ap (λ x. written T x (state (suc k))) r.holds ∙ written_again T ws long (state k) (fits k (omega arith)) (state (suc k)) ∙ ap (λ j. written T ws (state j)) (sym (add-one k))
 
-    pub run_stop : ok ≡ false → (e : Evaluation) → Laid T ws (first_refusal entry 0 n) e (Err (BadEntry (place k))) after
+    pub run_stop : ok ≡ out_of_range → (e : Evaluation) → Laid T ws (first_refusal entry 0 n) e (Err (BadEntry (place k))) after
     run_stop f e = ⊎_elim
-        (λ h. absurd (true≢false (sym (rw h.1 at here).0 ∙ f)))
+        (λ h. absurd (apart (sym f ∙ (rw h.1 at here).0)))
         (λ h.
         let stop : Err (BadEntry (place k)) ≡ first_refusal entry 0 n = first_stop entry k n (first_refusal entry 0 n) r.left (BadEntry (place k)) l h.0 in
         (stop, λ q. absurd (not_both (BadEntry (place k)) (stop ∙ q)), beside_then T ws mid after beside (rw h.1 at here).1))

@@ -16,23 +16,21 @@ ghost use Rattle.kept.specs.Layout.{of_words, written};
 ghost use Rattle.kept_laws.specs.Given.{support_at, used_by, sized, produced, rooted, planned};
 ghost use Rattle.words.specs.Halves.{half};
 ghost use Rattle.kept_laws.specs.Wrote.{Wrote};
-ghost use Rattle.node_truth.specs.InWords.{seen_of, true_in};
+ghost use Rattle.node_truth.specs.InWords.{true_in};
 ghost use Rattle.complete.specs.Laid.{Laid};
 ghost use Rattle.complete.specs.Search.{lacks_in, next_lacking};
 ghost use Rattle.complete.specs.Phases.{viewed, summed, opened, emptied, with_halves, begun, Stored, truth_set, truths_laid, producer_counted, support_laid, missing_laid, root_laid, roots_laid, summarised, NoSupport, NoMissing, NoFalseRoots};
 
-use node_truth::Seen;
-use theory::{Admission, Counts, Node, Refusal};
+use kept_laws::OutOfRange;
+use theory::{Counts, Node, Refusal};
 
 // A part becomes the candidate's words of 32 bits.
 fn lay_halves(candidate: &[u64], part: &mut [u32])
     requires { length part.old ≤ 2 * length candidate.now }
     ensures { part.new ≡ tabulate (length part.old) (half candidate.now) }
 {
-    let mut i = 0;
-    while i < part.len() {
+    for i in 0..part.len() {
         part[i] = words::half_word(candidate, i);
-        i += 1;
     }
 }
 
@@ -45,8 +43,8 @@ fn empty(counts: Counts, kept: &mut [u32])
     let candidate = kept_laws::candidate_at(counts);
     let missing = kept_laws::missing_at(counts);
     let end = kept_laws::groups_at(counts) + (counts.nodes + 31) / 32;
-    words::clear(&mut kept[worklist..candidate]);
-    words::clear(&mut kept[missing..end]);
+    kept[worklist..candidate].fill(0);
+    kept[missing..end].fill(0);
 }
 
 fn lay_candidate(counts: Counts, candidate: &[u64], kept: &mut [u32])
@@ -83,29 +81,30 @@ fn reset(counts: Counts, candidate: &[u64], kept: &mut [u32])
     lay_candidate(counts, candidate, kept);
 }
 
-// Node k gets a truth that was read; false if none was.
-fn lay(kept: &mut [u32], k: usize, seen: Option<bool>) -> bool
+// Node k gets a truth that was read; Err if none was.
+fn lay(kept: &mut [u32], k: usize, seen: Option<bool>) -> Result<(), OutOfRange>
     requires { 8 + k < length kept.old }
-    ensures { Stored kept.old k (seen_of seen) result kept.new }
+    ensures { Stored kept.old k (seen) result kept.new }
 {
-    match seen {
-        Some(true) => {
-            kept[8 + k] = 1;
-            true
-        }
-        Some(false) => {
-            kept[8 + k] = 0;
-            true
-        }
-        None => false,
-    }
+    let Some(holds) = seen else {
+        return Err(OutOfRange);
+    };
+    kept[8 + k] = u32::from(holds);
+    Ok(())
 }
 
-// Node k gets its truth; false if an entry met there is outside its table, or an operand not below it.
-fn lay_truth(counts: Counts, nodes: &[u32], operands: &[u32], kept: &mut [u32], k: usize) -> bool
+// Node k gets its truth; Err if an entry met there is outside its table, or an operand not below it.
+fn lay_truth(
+    counts: Counts,
+    nodes: &[u32],
+    operands: &[u32],
+    kept: &mut [u32],
+    k: usize,
+) -> Result<(), OutOfRange>
     requires { Limited counts × (k < counts.nodes) × (3 * counts.nodes ≤ length nodes.now) × (counts.operands ≤ length operands.now) × (used_by counts ≤ length kept.old) }
     ensures { (T : Tables) → Wrote (viewed counts nodes.now operands.now T) kept.old (truth_set (viewed counts nodes.now operands.now T) k (of_words (viewed counts nodes.now operands.now T) kept.old)) result kept.new }
 {
+    // node_truth's match again: with one function for both, a fresh check takes 1.43 to 2.46 of the instructions (docs/DECISIONS.md, Forms)
     // the kind that is met most, by one comparison
     if nodes[3 * k] == 2 {
         let left = words::word(nodes, 3 * k + 1);
@@ -131,21 +130,24 @@ fn lay_truth(counts: Counts, nodes: &[u32], operands: &[u32], kept: &mut [u32], 
             let seen = node_truth::span_truth(operands, counts.operands, kept, k, s, c, true);
             lay(kept, k, seen)
         }
-        Node::Unknown => false,
+        Node::Unknown => Err(OutOfRange),
     }
 }
 
 // All nodes rising.
-fn lay_truths(counts: Counts, nodes: &[u32], operands: &[u32], kept: &mut [u32]) -> Result<(), Refusal>
+fn lay_truths(
+    counts: Counts,
+    nodes: &[u32],
+    operands: &[u32],
+    kept: &mut [u32],
+) -> Result<(), Refusal>
     requires { Limited counts × (3 * counts.nodes ≤ length nodes.now) × (counts.operands ≤ length operands.now) × (used_by counts ≤ length kept.old) }
     ensures { (T : Tables) → Laid (viewed counts nodes.now operands.now T) kept.old (first_refusal (node_entry (viewed counts nodes.now operands.now T) (present (of_words (viewed counts nodes.now operands.now T) kept.old))) 0 counts.nodes) (truths_laid (viewed counts nodes.now operands.now T) (of_words (viewed counts nodes.now operands.now T) kept.old)) result kept.new }
 {
-    let mut k = 0;
-    while k < counts.nodes {
-        if !lay_truth(counts, nodes, operands, kept, k) {
+    for k in 0..counts.nodes {
+        let Ok(()) = lay_truth(counts, nodes, operands, kept, k) else {
             return Err(Refusal::BadEntry(k));
-        }
-        k += 1;
+        };
     }
     Ok(())
 }
@@ -166,39 +168,45 @@ fn adds(kept: &[u32], body: usize) -> u32
     requires { 8 + body ≤ length kept.now }
     ensures { (result ≡ cond (body_true (true_in kept.now) body) 1 0) × (result ≤ 1) }
 {
-    body_true(kept, body) as u32
+    u32::from(body_true(kept, body))
 }
 
-// Producer p: the support of its head goes up if it counts; false if its head is no atom or its body no node.
-fn count_producer(counts: Counts, producers: &[u32], kept: &mut [u32], p: usize) -> bool
+// Producer p: the support of its head goes up if it counts; Err if its head is no atom or its body no node.
+fn count_producer(
+    counts: Counts,
+    producers: &[u32],
+    kept: &mut [u32],
+    p: usize,
+) -> Result<(), OutOfRange>
     requires { Limited counts × (4 * p + 1 < length producers.now) × (used_by counts ≤ length kept.old) × ((a : ℕ) → a < counts.atoms → get_or kept.old (support_at counts + a) 0 ≤ counts.roots) }
     ensures { (T : Tables) → Wrote (produced counts T.made producers.now T) kept.old (producer_counted (produced counts T.made producers.now T) p (of_words (produced counts T.made producers.now T) kept.old)) result kept.new }
 {
     let head = words::word(producers, 4 * p);
     let body = words::word(producers, 4 * p + 1);
     if head >= counts.atoms {
-        return false;
+        return Err(OutOfRange);
     }
     if body > counts.nodes {
-        return false;
+        return Err(OutOfRange);
     }
     let at = kept_laws::support_at(counts) + head;
     // no branch goes by the body's truth
     kept[at] = kept[at] + adds(kept, body);
-    true
+    Ok(())
 }
 
 // The support of each atom, where it was zero.
-fn count_producers(counts: Counts, made: usize, producers: &[u32], kept: &mut [u32]) -> Result<(), Refusal>
+fn count_producers(
+    counts: Counts,
+    made: usize,
+    producers: &[u32],
+    kept: &mut [u32],
+) -> Result<(), Refusal>
     requires { Limited counts × (made ≤ counts.roots) × (4 * counts.roots ≤ length producers.now) × (used_by counts ≤ length kept.old) × NoSupport counts kept.old }
     ensures { (T : Tables) → Laid (produced counts made producers.now T) kept.old (first_refusal (producer_entry (produced counts made producers.now T)) 0 made) (support_laid (produced counts made producers.now T) (of_words (produced counts made producers.now T) kept.old)) result kept.new }
 {
-    let mut p = 0;
-    while p < made {
-        if !count_producer(counts, producers, kept, p) {
-            return Err(Refusal::BadEntry(0));
-        }
-        p += 1;
+    for p in 0..made {
+        count_producer(counts, producers, kept, p)?;
     }
     Ok(())
 }
@@ -230,14 +238,12 @@ fn next_single(counts: Counts, kept: &[u32], from: usize) -> usize
     requires { Limited counts × (from ≤ counts.atoms) × (used_by counts ≤ length kept.now) }
     ensures { result ≡ next_lacking counts kept.now from }
 {
-    let mut a = from;
-    while a < counts.atoms {
+    for a in from..counts.atoms {
         if lacks(counts, kept, a) {
             return a;
         }
-        a += 1;
     }
-    a
+    counts.atoms
 }
 
 // The same, 32 atoms at a time.
@@ -263,22 +269,23 @@ fn lay_missing(counts: Counts, kept: &mut [u32])
 {
     let mut a = next_lacking(counts, kept, 0);
     while a < counts.atoms {
-        retained::missing(counts, kept, a, true);
+        // no count leaves its range here
+        let _ = retained::missing(counts, kept, a, true);
         a = next_lacking(counts, kept, a + 1);
     }
 }
 
-// Root position p is among the false roots if its node is false; false if it is no node.
-fn lay_root(counts: Counts, roots: &[u32], kept: &mut [u32], p: usize) -> bool
+// Root position p is among the false roots if its node is false; Err if it is no node.
+fn lay_root(counts: Counts, roots: &[u32], kept: &mut [u32], p: usize) -> Result<(), OutOfRange>
     requires { Limited counts × (p < counts.roots) × (counts.roots ≤ length roots.now) × (used_by counts ≤ length kept.old) }
     ensures { (T : Tables) → Wrote (rooted counts roots.now T) kept.old (root_laid (rooted counts roots.now T) p (of_words (rooted counts roots.now T) kept.old)) result kept.new }
 {
     let root = words::word(roots, p);
     if root >= counts.nodes {
-        return false;
+        return Err(OutOfRange);
     }
     if node_truth::holds(kept, root) {
-        return true;
+        return Ok(());
     }
     retained::root(counts, kept, p, false)
 }
@@ -288,12 +295,8 @@ fn lay_roots(counts: Counts, roots: &[u32], kept: &mut [u32]) -> Result<(), Refu
     requires { Limited counts × (counts.roots ≤ length roots.now) × (used_by counts ≤ length kept.old) × NoFalseRoots counts kept.old }
     ensures { (T : Tables) → Laid (rooted counts roots.now T) kept.old (first_refusal (root_entry (rooted counts roots.now T)) 0 counts.roots) (roots_laid (rooted counts roots.now T) (of_words (rooted counts roots.now T) kept.old)) result kept.new }
 {
-    let mut p = 0;
-    while p < counts.roots {
-        if !lay_root(counts, roots, kept, p) {
-            return Err(Refusal::BadEntry(0));
-        }
-        p += 1;
+    for p in 0..counts.roots {
+        lay_root(counts, roots, kept, p)?;
     }
     Ok(())
 }
@@ -310,13 +313,9 @@ fn summarize(
     requires no_support { NoSupport counts kept.old × NoMissing counts kept.old × NoFalseRoots counts kept.old }
     ensures { (T : Tables) → Laid (summed counts made roots.now producers.now T) kept.old (or_else (first_refusal (producer_entry (summed counts made roots.now producers.now T)) 0 made) (first_refusal (root_entry (summed counts made roots.now producers.now T)) 0 counts.roots)) (summarised (summed counts made roots.now producers.now T) (of_words (summed counts made roots.now producers.now T) kept.old)) result kept.new }
 {
-    match count_producers(counts, made, producers, kept) {
-        Ok(()) => {
-            lay_missing(counts, kept);
-            lay_roots(counts, roots, kept)
-        }
-        Err(r) => Err(r),
-    }
+    count_producers(counts, made, producers, kept)?;
+    lay_missing(counts, kept);
+    lay_roots(counts, roots, kept)
 }
 
 // A check of the candidate by all nodes rising, then producers, then roots.
@@ -334,8 +333,6 @@ pub fn complete(
     ensures { (T : Tables) → Laid (planned counts made nodes.now operands.now roots.now producers.now T) kept.old (tables_admission (planned counts made nodes.now operands.now roots.now producers.now T) (member 64 candidate.now)) (fresh (planned counts made nodes.now operands.now roots.now producers.now T) (member 64 candidate.now)) result kept.new }
 {
     reset(counts, candidate, kept);
-    match lay_truths(counts, nodes, operands, kept) {
-        Ok(()) => summarize(counts, made, roots, producers, kept),
-        Err(r) => Err(r),
-    }
+    lay_truths(counts, nodes, operands, kept)?;
+    summarize(counts, made, roots, producers, kept)
 }

@@ -1,6 +1,6 @@
 -- What a load or a store at a place of the lent words, or a section lent as a slice, is to the evaluation that they hold.
 -- Assumes nothing.
-use Rattle.std.specs.Prelude.{ℕ, zero, suc, ◌<◌, ◌+◌, ◌-◌, ◌≡◌, List, [], ◌∷◌, ◌++◌, length, take, drop}
+use Rattle.std.specs.Prelude.{ℕ, zero, suc, Bool, true, false, ◌<◌, ◌+◌, ◌-◌, ◌≡◌, List, [], ◌∷◌, ◌++◌, length, take, drop}
 use native.Mathlib.Omega.{arith}
 use Rattle.std.proofs.Common.{suc-add, zero-add, add_assoc, ◌∙◌, append_assoc, get_or-append-add}
 use Rattle.std.proofs.Math.Path.{refl, ap}
@@ -11,10 +11,16 @@ use Rattle.kept.specs.SetOf.{words32}
 use Rattle.kept.specs.CountedSet.{CountedSet}
 use Rattle.kept.specs.Worklist.{Worklist, with_first, with_far}
 use Rattle.kept.specs.Tables.{Tables, atom_count, node_count, root_count}
-use Rattle.kept.specs.Evaluation.{Evaluation}
+use Rattle.kept.specs.Evaluation.{Evaluation, truth_word}
 use Rattle.kept.specs.Parts.{with_truths, with_worklist, with_support, with_candidate, with_false_roots}
 use Rattle.kept.specs.Layout.{flat, parts, image, truths_start, worklist_start, support_start, candidate_start, missing_start, false_roots_start, groups_start, used}
 use Rattle.kept.specs.LayoutLaws.{Fits}
+use Rattle.std.specs.Int.{from_bool}
+
+-- a truth as a word
+pub from_truth : (t : Bool) → from_bool t ≡ truth_word t
+from_truth true = refl
+from_truth false = refl
 
 -- ---- parts laid end to end
 

@@ -1,6 +1,5 @@
 -- A node gets its truth: it is so already, its readers are out of order, or they are told.
 -- Assumes nothing.
-use Rattle.std.specs.Int.{from_bool}
 use Rattle.std.specs.Prelude.{ℕ, ◌<◌, ◌≤◌, ◌+◌, ◌≡◌, refl, Bool, not, List, length, Some, None}
 use Rattle.std.proofs.Math.Path.{ap}
 use Rattle.std.proofs.Common.{sym, ◌∙◌}
@@ -29,11 +28,6 @@ unlike-not true true = refl
 unlike-not true false = refl
 unlike-not false true = refl
 unlike-not false false = refl
-
--- a truth as a word
-pub from_truth : (t : Bool) → from_bool t ≡ truth_word t
-from_truth true = refl
-from_truth false = refl
 
 -- ---- list s of the reader table
 

@@ -10,4 +10,4 @@ byte true = (refl, omega arith)
 byte false = (refl, omega arith)
 
 pub returns : goal.returns
-returns c = rw (← c.body_true.ensures) (byte c.body_true.result)
+returns c = rw (← c.body_true.ensures, c.from.ensures) (byte c.body_true.result)

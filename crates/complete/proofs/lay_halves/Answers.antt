@@ -11,12 +11,6 @@ loop-i-init c = (search rules, search rules, fill_none (half c.args.candidate.no
 pub half_word-requires : goal.half_word-requires
 half_word-requires c = omega (arith, c.loop-i.invariant.1, c.requires)
 
-pub overflow_add-i : goal.overflow_add-i
-overflow_add-i c = omega (arith, c.loop-i.invariant.1)
-
-pub loop-i-smaller : goal.loop-i-smaller
-loop-i-smaller c = omega (arith, c.loop-i.invariant.1)
-
 pub loop-i-preserved : goal.loop-i-preserved
 loop-i-preserved c = (omega (arith, c.loop-i.invariant.1), simp length-set c.loop-i.invariant.1, fill_more (half c.args.candidate.now) c.args.part.now _ _ _ (omega (arith, c.loop-i.invariant.1)) c.half_word.ensures c.loop-i.invariant.2)
 

@@ -2,12 +2,9 @@ use Rattle.complete.specs.Loops.{Truths}
 use Rattle.complete.specs.Phases.{viewed}
 use Rattle.kept.specs.Tables.{Tables}
 use lib.ListN.{length}
-use Prim.Native.Nat.{◌-◌, ◌≤◌}
+use Prim.Native.Nat.{◌≤◌}
 use mathlib.Core.Path.{◌≡◌}
 use Rattle.complete.proofs.lay_truths.Given as goal
 
 abbrev pub invariant-loop-k : goal.invariant-loop-k
 invariant-loop-k l = (l.k ≤ l.counts.nodes) × (length l.kept ≡ length l.initial.kept) × ((T : Tables) → Truths (viewed l.counts l.nodes l.operands T) l.initial.kept l.k l.kept)
-
-abbrev pub decreases-loop-k : goal.decreases-loop-k
-decreases-loop-k l = l.counts.nodes - l.k

@@ -3,7 +3,8 @@ use mathlib.Core.Path.{sym, ◌∙◌}
 use Rattle.readers.specs.ReaderTable.{reader_words}
 use Rattle.readers.specs.LaidLaws.{in_order_true, in_order_more}
 use Rattle.kept_laws.specs.Given.{told}
-use Rattle.step.specs.SettleLaws.{from_truth, settle_same, settle_astray, settle_told}
+use Rattle.kept_laws.specs.Stores.{from_truth}
+use Rattle.step.specs.SettleLaws.{settle_same, settle_astray, settle_told}
 use Rattle.step.proofs.settle.Goals as goal
 
 pub returns-then-holds : goal.returns-then-holds
