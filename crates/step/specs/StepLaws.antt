@@ -16,7 +16,7 @@ use Rattle.node_truth.specs.InWords.{true_in, present_in}
 use Rattle.node_truth.specs.InWordsLaws.{seen_in}
 use Rattle.theory.specs.declared.Refusal.{Refusal}
 use Rattle.theory.specs.declared.Refusal.TheVariants.{BadEntry}
-use Rattle.step.specs.Steps.{taken_from, Steps}
+use Rattle.step.specs.Steps.{Stepping, taken_from, Steps}
 
 module _ (T : Tables) (ws : List ℕ) (k : ℕ) (is : k ≡ get_or ws 5 0) where
   abbrev e : Evaluation
@@ -45,5 +45,5 @@ module _ (T : Tables) (ws : List ℕ) (k : ℕ) (is : k ≡ get_or ws 5 0) where
     taken t h = ap (step_at T e) first ∙ rw (lt-ltb k (node_count T) l, h)
 
     -- t is the truth that was seen
-    pub step_taken : (t : Bool) → s ≡ Some t → (r : Result (Option ℕ) Refusal) (after : List ℕ) → Steps T ws (taken_from T k t e) r after → Steps T ws (step T e) r after
+    pub step_taken : (t : Bool) → s ≡ Some t → (r : Stepping) (after : List ℕ) → Steps T ws (taken_from T k t e) r after → Steps T ws (step T e) r after
     step_taken t p r after h = rw (taken t (known (Some t) p)) h

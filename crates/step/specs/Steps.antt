@@ -35,8 +35,11 @@ settled_to T k t e = cond (unlike (truth_at e k) t) (and_then (readers_at T k) (
 unfoldable pub taken_from : Tables → ℕ → Bool → Evaluation → Stepped
 taken_from T k t e = settled_from T k e (Some t) (without_first (node_count T) e.worklist)
 
--- none: nothing was on the worklist; or the node that was gone over
-abbrev pub Steps : Tables → List ℕ → Stepped → Result (Option ℕ) Refusal → List ℕ → Type 0
+-- what a step answers: none, if nothing was on the worklist, or the node that was gone over
+abbrev pub Stepping : Type 0
+Stepping = Result (Option ℕ) Refusal
+
+abbrev pub Steps : Tables → List ℕ → Stepped → Stepping → List ℕ → Type 0
 Steps T ws idle r after = (r ≡ Ok None) × (after ≡ ws)
 Steps T ws (took k e) r after = (r ≡ Ok (Some k)) × (after ≡ written T ws e)
 Steps T ws (fault k) r after = (r ≡ Err (BadEntry k)) × Beside T ws after

@@ -1,6 +1,6 @@
--- What a check answers and leaves: a result of the definitions, in the cases of `Checked`.
+-- What a check answers and leaves: a result of the definitions.
 -- Assumes nothing.
-use Rattle.std.specs.Prelude.{ℕ, ◌≡◌, List}
+use Rattle.std.specs.Prelude.{ℕ, ◌≡◌, List, Result, Ok, Err}
 use Rattle.theory.specs.declared.Counts.{Counts}
 use Rattle.kept.specs.Tables.{Tables}
 use Rattle.kept.specs.Check as check
@@ -8,18 +8,21 @@ use Rattle.kept.specs.Layout.{written}
 use Rattle.kept.specs.Outcome.{Answer, accepted, refused}
 use Rattle.kept_laws.specs.Wrote.{Beside}
 use Rattle.verdict.specs.Told.{verdict_as}
-use Rattle.update.specs.declared.Checked.{Checked}
-use Rattle.update.specs.declared.Checked.TheVariants.{Accepted, Refused}
+use Rattle.theory.specs.declared.Refusal.{Refusal}
+use Rattle.update.specs.declared.Accepted.{Accepted}
 
 -- the tables of these slices, whatever the plan's stamp in T is
 abbrev pub lent : Counts → ℕ → List ℕ → List ℕ → List ℕ → List ℕ → List ℕ → Tables → Tables
 lent t made nodes operands roots producers readers T =
     record { counts = t; plan = T.plan; made = made; nodes = nodes; operands = operands; roots = roots; producers = producers; readers = readers }
 
--- what each case of `Checked` is
+-- what the code answers
+abbrev pub Checked : Type 0
+Checked = Result Accepted Refusal
+
 abbrev pub answer_of : Checked → Answer
-answer_of (Accepted v n) = accepted (verdict_as v) n
-answer_of (Refused r) = refused r
+answer_of (Ok a) = accepted (verdict_as a.verdict) a.visited
+answer_of (Err r) = refused r
 
 -- the answer that a result gives
 abbrev pub answer_in : check.Result → Answer

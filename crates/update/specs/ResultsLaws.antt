@@ -1,6 +1,6 @@
 -- Results from the parts that calls answer and leave.
 -- Assumes nothing.
-use Rattle.std.specs.Prelude.{ℕ, ◌≤◌, ◌≡◌, refl, List, length, Option, Some, None}
+use Rattle.std.specs.Prelude.{ℕ, ◌≤◌, ◌≡◌, refl, List, length, Option, Some, None, Err}
 use Rattle.std.proofs.Common.{ap, ◌∙◌}
 use Rattle.theory.specs.declared.Refusal.{Refusal}
 use Rattle.kept.specs.Tables.{Tables}
@@ -11,13 +11,11 @@ use Rattle.kept.specs.Layout.{written, used}
 use Rattle.kept.specs.LayoutLaws.{Fits}
 use Rattle.kept_laws.specs.Written.{written_again}
 use Rattle.kept_laws.specs.Wrote.{Beside, beside_then, beside_written}
-use Rattle.update.specs.declared.Checked.{Checked}
-use Rattle.update.specs.declared.Checked.TheVariants.{Refused}
-use Rattle.update.specs.Results.{answer_of, answer_in, Leaves, Results}
+use Rattle.update.specs.Results.{Checked, answer_of, answer_in, Leaves, Results}
 
 module _ (T : Tables) (ws : List ℕ) where
   -- a refusal
-  pub refused_results : (x : Result) (r : Refusal) (after : List ℕ) → x ≡ refused r → Beside T ws after → Results T ws x (Refused r) after
+  pub refused_results : (x : Result) (r : Refusal) (after : List ℕ) → x ≡ refused r → Beside T ws after → Results T ws x (Err r) after
   refused_results x r after e b = rw e (refl, b)
 
   -- the verdict of what the words hold

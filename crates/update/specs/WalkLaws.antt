@@ -1,6 +1,6 @@
 -- The walk as a loop of steps, and what comes before it.
 -- Assumes nothing.
-use Rattle.std.specs.Prelude.{ℕ, suc, ◌<◌, ◌≤◌, ◌+◌, ◌-◌, ◌*◌, ◌/◌, ◌%◌, ◌^◌, ◌≡◌, refl, Bool, true, false, not, cond, List, eqb, ltb, length, get_or}
+use Rattle.std.specs.Prelude.{ℕ, suc, ◌<◌, ◌≤◌, ◌+◌, ◌-◌, ◌*◌, ◌/◌, ◌%◌, ◌^◌, ◌≡◌, refl, Bool, true, false, not, cond, List, eqb, ltb, length, get_or, Some, None, Ok, Err}
 use Rattle.std.proofs.Common.{arith, sym, ◌∙◌, ⊎_elim, shr_lt, ne_eqb, lt-ltb, le-ltb, ltb-false}
 use Rattle.std.proofs.Math.Path.{ap}
 use Rattle.std.specs.Int.Count.{count_trailing_zeros}
@@ -8,6 +8,7 @@ use Rattle.base.specs.Tests.{equal_or}
 use Rattle.formula.specs.Satisfaction.{Interpretation}
 use Rattle.formula.specs.Passes.{Within}
 use Rattle.theory.specs.declared.Counts.{Counts}
+use Rattle.theory.specs.declared.Refusal.{Refusal}
 use Rattle.theory.specs.declared.Refusal.TheVariants.{BadEntry}
 use Rattle.words.specs.BitLaws.{trailing_below}
 use Rattle.words.specs.Next.{next}
@@ -27,39 +28,35 @@ use Rattle.kept_laws.specs.Given.{candidate_at, missing_at}
 use Rattle.kept_laws.specs.WalkEnds.{step_next}
 use Rattle.kept_laws.specs.Turns.{resumed, resumed_none, walk_more, walk_done, walk_stop}
 use Rattle.kept_laws.specs.Written.{written_same, of_written, length-written, written_again, part-candidate, get_candidate, get_first}
-use Rattle.kept_laws.specs.Wrote.{Wrote, wrote_done, wrote_out_of_range, Beside, beside_same, beside_then, beside_written}
-use Rattle.step.specs.Steps.{Steps}
-use Rattle.step.specs.declared.Taking.{Taking}
-use Rattle.step.specs.declared.Taking.TheVariants.{Idle, Took, Fault}
+use Rattle.kept_laws.specs.Wrote.{Wrote, wrote_done, wrote_out_of_range, Beside, beside_same, beside_then, beside_written, Changing, done, out_of_range}
+use Rattle.step.specs.Steps.{Stepping, Steps}
 use Rattle.start.specs.KeptWithin.{kept_within}
-use Rattle.update.specs.declared.Checked.{Checked}
-use Rattle.update.specs.declared.Checked.TheVariants.{Refused}
-use Rattle.update.specs.Results.{answer_of, answer_in, Results}
+use Rattle.update.specs.Results.{Checked, answer_of, answer_in, Results}
 use Rattle.update.specs.ResultsLaws.{refused_results, concluded_results, results_by, results_then}
 
 -- ---- what a caller learns from the answer of a step
 
-module _ (T : Tables) (ws : List ℕ) (r : Taking) (after : List ℕ) where
-  pub stepped_idle : (s : Stepped) → Steps T ws s r after → r ≡ Idle → (s ≡ idle) × (after ≡ ws)
+module _ (T : Tables) (ws : List ℕ) (r : Stepping) (after : List ℕ) where
+  pub stepped_idle : (s : Stepped) → Steps T ws s r after → r ≡ Ok None → (s ≡ idle) × (after ≡ ws)
   stepped_idle idle h e = (refl, h.1)
-  stepped_idle (took k d) h e = let p : Took k ≡ Idle = sym h.0 ∙ e in let z : ◌≡◌ {A = ℕ} 0 1 = cc in absurd (omega arith)
-  stepped_idle (fault k) h e = let p : Fault k ≡ Idle = sym h.0 ∙ e in let z : ◌≡◌ {A = ℕ} 0 1 = cc in absurd (omega arith)
+  stepped_idle (took k d) h e = let p : Ok (Some k) ≡ Ok None = sym h.0 ∙ e in let z : ◌≡◌ {A = ℕ} 0 1 = cc in absurd (omega arith)
+  stepped_idle (fault k) h e = let p : Err (BadEntry k) ≡ Ok None = sym h.0 ∙ e in let z : ◌≡◌ {A = ℕ} 0 1 = cc in absurd (omega arith)
 
-  pub stepped_took : (s : Stepped) (k : ℕ) → Steps T ws s r after → r ≡ Took k → (d : Evaluation) × (s ≡ took k d) × (after ≡ written T ws d)
-  stepped_took idle k h e = let p : Idle ≡ Took k = sym h.0 ∙ e in let z : ◌≡◌ {A = ℕ} 0 1 = cc in absurd (omega arith)
+  pub stepped_took : (s : Stepped) (k : ℕ) → Steps T ws s r after → r ≡ Ok (Some k) → (d : Evaluation) × (s ≡ took k d) × (after ≡ written T ws d)
+  stepped_took idle k h e = let p : Ok None ≡ Ok (Some k) = sym h.0 ∙ e in let z : ◌≡◌ {A = ℕ} 0 1 = cc in absurd (omega arith)
   stepped_took (took j d) k h e =
-      let p : Took j ≡ Took k = sym h.0 ∙ e in
+      let p : Ok (Some j) ≡ Ok (Some k) = sym h.0 ∙ e in
       let q : j ≡ k = cc in
       (d, ap (λ m. took m d) q, h.1)
-  stepped_took (fault j) k h e = let p : Fault j ≡ Took k = sym h.0 ∙ e in let z : ◌≡◌ {A = ℕ} 0 1 = cc in absurd (omega arith)
+  stepped_took (fault j) k h e = let p : Err (BadEntry j) ≡ Ok (Some k) = sym h.0 ∙ e in let z : ◌≡◌ {A = ℕ} 0 1 = cc in absurd (omega arith)
 
-  pub stepped_fault : (s : Stepped) (k : ℕ) → Steps T ws s r after → r ≡ Fault k → (s ≡ fault k) × Beside T ws after
-  stepped_fault idle k h e = let p : Idle ≡ Fault k = sym h.0 ∙ e in let z : ◌≡◌ {A = ℕ} 0 1 = cc in absurd (omega arith)
-  stepped_fault (took j d) k h e = let p : Took j ≡ Fault k = sym h.0 ∙ e in let z : ◌≡◌ {A = ℕ} 0 1 = cc in absurd (omega arith)
-  stepped_fault (fault j) k h e =
-      let p : Fault j ≡ Fault k = sym h.0 ∙ e in
-      let q : j ≡ k = cc in
-      (ap fault q, h.1)
+  pub stepped_fault : (s : Stepped) (x : Refusal) → Steps T ws s r after → r ≡ Err x → (k : ℕ) × (x ≡ BadEntry k) × (s ≡ fault k) × Beside T ws after
+  stepped_fault idle x h e = let p : Ok None ≡ Err x = sym h.0 ∙ e in let z : ◌≡◌ {A = ℕ} 0 1 = cc in absurd (omega arith)
+  stepped_fault (took j d) x h e = let p : Ok (Some j) ≡ Err x = sym h.0 ∙ e in let z : ◌≡◌ {A = ℕ} 0 1 = cc in absurd (omega arith)
+  stepped_fault (fault j) x h e =
+      let p : Err (BadEntry j) ≡ Err x = sym h.0 ∙ e in
+      let q : x ≡ BadEntry j = cc in
+      (j, q, refl, h.1)
 
 -- ---- the loop: n nodes are behind, g of them before it, the words are `now`
 
@@ -81,12 +78,12 @@ module _ (T : Tables) (g : ℕ) (ws : List ℕ) (long : used T ≤ length ws) wh
   pub walk_begins : Walking T g ws g ws
   walk_begins = record { fits = fits_of T ws long; put = sym (written_same T ws long); left = refl }
 
-  module _ (n : ℕ) (now : List ℕ) (w : Walking T g ws n now) (r : Taking) (after : List ℕ) (h : Steps T now (step T (of_words T now)) r after) where
+  module _ (n : ℕ) (now : List ℕ) (w : Walking T g ws n now) (r : Stepping) (after : List ℕ) (h : Steps T now (step T (of_words T now)) r after) where
     mid_long : used T ≤ length now
     mid_long = rw (ap length w.put ∙ length-written T ws long (of_words T now) w.fits) long
 
     -- a node was taken
-    pub walk_turns : (k : ℕ) → r ≡ Took k → Turned T g ws n now after
+    pub walk_turns : (k : ℕ) → r ≡ Ok (Some k) → Turned T g ws n now after
     walk_turns k e =
         let s = stepped_took T now r after (step T (of_words T now)) k h e in
         let f : Fits T s.0 = step_fits T (of_words T now) k s.0 s.1 w.fits in
@@ -105,7 +102,7 @@ module _ (T : Tables) (g : ℕ) (ws : List ℕ) (long : used T ≤ length ws) wh
         }
 
     -- the worklist is empty
-    pub walk_stands : r ≡ Idle → (c : Checked) → answer_of c ≡ answer_in (concluded (verdict_of T (of_words T after)) n (of_words T after)) → Results T ws whole c after
+    pub walk_stands : r ≡ Ok None → (c : Checked) → answer_of c ≡ answer_in (concluded (verdict_of T (of_words T after)) n (of_words T after)) → Results T ws whole c after
     walk_stands e c a =
         let s = stepped_idle T now r after (step T (of_words T now)) h e in
         concluded_results T ws whole (verdict_of T (of_words T now)) n (of_words T now) c after long w.fits
@@ -114,11 +111,12 @@ module _ (T : Tables) (g : ℕ) (ws : List ℕ) (long : used T ≤ length ws) wh
         (s.1 ∙ w.put)
 
     -- 17
-    pub walk_breaks : (k : ℕ) → r ≡ Fault k → Results T ws whole (Refused (BadEntry k)) after
-    walk_breaks k e =
-        let s = stepped_fault T now r after (step T (of_words T now)) k h e in
-        refused_results T ws whole (BadEntry k) after (w.left ∙ walk_stop T n k (of_words T now) s.0)
-        (beside_then T ws now after (rw w.put (beside_written T ws (of_words T now) long w.fits)) s.1)
+    pub walk_breaks : (x : Refusal) → r ≡ Err x → Results T ws whole (Err x) after
+    walk_breaks x e =
+        let s = stepped_fault T now r after (step T (of_words T now)) x h e in
+        rw s.1
+        (refused_results T ws whole (BadEntry s.0) after (w.left ∙ walk_stop T n s.0 (of_words T now) s.2)
+        (beside_then T ws now after (rw w.put (beside_written T ws (of_words T now) long w.fits)) s.3))
 
 -- ---- before it
 
@@ -172,18 +170,18 @@ module _ (T : Tables) (J : Interpretation) (ws : List ℕ) (long : used T ≤ le
       kept_within T ws long
       (rw (part-candidate T ws long) (omega (arith, (fits_of T ws long).candidate, ltb-false (next 32 e.candidate (atom_count T)) (32 * length e.candidate) h)))
 
-  pub update_stray : stray ≡ true → Results T ws result (Refused (BadEntry 0)) ws
+  pub update_stray : stray ≡ true → Results T ws result (Err (BadEntry 0)) ws
   unfolding kept_walk kept_result
   update_stray h = refused_results T ws result (BadEntry 0) ws (rw h) (beside_same T ws)
 
-  module _ (h : stray ≡ false) (r : Bool) (mid : List ℕ) (w : Wrote T ws (walk_start T J (atom_count T) e) r mid) where
-    pub update_fault : r ≡ false → Results T ws result (Refused (BadEntry 0)) mid
+  module _ (h : stray ≡ false) (r : Changing) (mid : List ℕ) (w : Wrote T ws (walk_start T J (atom_count T) e) r mid) where
+    pub update_fault : r ≡ out_of_range → Results T ws result (Err (BadEntry 0)) mid
     unfolding kept_walk kept_result
     update_fault p =
         let s = wrote_out_of_range T ws (walk_start T J (atom_count T) e) mid r w p in
         refused_results T ws result (BadEntry 0) mid (rw (h, s.0)) s.1
 
-    pub update_walk : r ≡ true → (c : Checked) (after : List ℕ) → Results T mid (resumed T 0 (walk T (suc (node_count T)) (of_words T mid))) c after → Results T ws result c after
+    pub update_walk : r ≡ done → (c : Checked) (after : List ℕ) → Results T mid (resumed T 0 (walk T (suc (node_count T)) (of_words T mid))) c after → Results T ws result c after
     unfolding kept_walk
     update_walk p c after x =
         let s = wrote_done T ws (walk_start T J (atom_count T) e) mid r w p in

@@ -19,25 +19,26 @@ ghost use Rattle.step.specs.Steps.{Lent};
 ghost use Rattle.verdict.specs.Told.{judged_of};
 ghost use Rattle.update.specs.Results.{lent, answer_of, answer_in, Results};
 
-use step::Taking;
+use kept_laws::OutOfRange;
 use theory::{Counts, Refusal};
-use verdict::{Judged, Verdict};
+use verdict::Verdict;
 
-// The verdict and the number of nodes gone over, or the refusal.
+// The verdict, and how many nodes were gone over.
 #[derive(Clone, Copy)]
-pub enum Checked {
-    Accepted(Verdict, usize),
-    Refused(Refusal),
+pub struct Accepted {
+    pub verdict: Verdict,
+    pub visited: usize,
 }
 
 // A verdict after n nodes.
-fn told(judged: Option<Verdict>, n: usize) -> Checked
+fn told(judged: Result<Verdict, OutOfRange>, n: usize) -> Result<Accepted, Refusal>
     ensures { (e : Evaluation) → answer_of result ≡ answer_in (concluded (judged_of judged) n e) }
 {
-    match judged {
-        Some(v) => Checked::Accepted(v, n),
-        None => Checked::Refused(Refusal::BadEntry(0)),
-    }
+    let verdict = judged?;
+    Ok(Accepted {
+        verdict,
+        visited: n,
+    })
 }
 
 // Steps until the worklist is empty, then the verdict; `gone` nodes were gone over before. After a fresh check too, whose worklist is empty: with two callers the walk stays a function of its own, with registers of its own.
@@ -51,7 +52,7 @@ pub fn walk(
     readers: &[u64],
     kept: &mut [u32],
     gone: usize,
-) -> Checked
+) -> Result<Accepted, Refusal>
     requires { Lent counts made (length nodes.now) (length operands.now) (length producers.now) (length readers.now) (length kept.old) × (counts.roots ≤ length roots.now) × (gone ≤ counts.nodes) }
     ensures { (T : Tables) → Results (lent counts made nodes.now operands.now roots.now producers.now readers.now T) kept.old (resumed (lent counts made nodes.now operands.now roots.now producers.now readers.now T) gone (walk (lent counts made nodes.now operands.now roots.now producers.now readers.now T) (suc counts.nodes) (of_words (lent counts made nodes.now operands.now roots.now producers.now readers.now T) kept.old))) result kept.new }
 {
@@ -63,15 +64,12 @@ pub fn walk(
     let readers = &readers[..];
     let mut n = gone;
     loop {
-        match step::step(counts, made, nodes, operands, producers, readers, kept) {
-            Taking::Idle => {
+        match step::step(counts, made, nodes, operands, producers, readers, kept)? {
+            None => {
                 return told(verdict::judge(counts, roots, kept), n);
             }
-            Taking::Took(_) => {
+            Some(_) => {
                 n += 1;
-            }
-            Taking::Fault(place) => {
-                return Checked::Refused(Refusal::BadEntry(place));
             }
         }
     }
@@ -104,16 +102,14 @@ pub fn update(
     marks: &[u64],
     first: usize,
     end: usize,
-) -> Checked
+) -> Result<Accepted, Refusal>
     requires { Lent counts made (length nodes.now) (length operands.now) (length producers.now) (length readers.now) (length kept.old) × (counts.roots ≤ length roots.now) × (length candidate.now ≡ words64 counts.atoms) × Within counts.atoms (member 64 candidate.now) × Marked counts kept.old candidate.now marks.now × (words64 counts.atoms ≤ 64 * length marks.now) × (length marks.now ≤ 16) × Between counts kept.old candidate.now first end }
     ensures { (T : Tables) → Results (lent counts made nodes.now operands.now roots.now producers.now readers.now T) kept.old (kept_result (lent counts made nodes.now operands.now roots.now producers.now readers.now T) (kept_walk (lent counts made nodes.now operands.now roots.now producers.now readers.now T) (member 64 candidate.now) (of_words (lent counts made nodes.now operands.now roots.now producers.now readers.now T) kept.old))) result kept.new }
 {
     if stray_member(counts, kept) {
-        return Checked::Refused(Refusal::BadEntry(0));
+        return Err(Refusal::BadEntry(0));
     }
-    if !start::start(counts, candidate, readers, kept, marks, first, end) {
-        return Checked::Refused(Refusal::BadEntry(0));
-    }
+    start::start(counts, candidate, readers, kept, marks, first, end)?;
     walk(
         counts, made, nodes, operands, roots, producers, readers, kept, 0,
     )

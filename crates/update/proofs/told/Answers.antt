@@ -1,7 +1,10 @@
+use mathlib.Core.Path.{ap, ◌∙◌}
+use Rattle.base.specs.Raised.{raised}
+use Rattle.update.specs.Results.{answer_of}
 use Rattle.update.proofs.told.Goals as goal
 
-pub returns-in-Sure : goal.returns-in-Sure
-returns-in-Sure c = λ e. rw c.in-Sure.is
+pub returns : goal.returns
+returns c = λ e. rw c.in_ok-verdict.was
 
-pub returns-in-Stray : goal.returns-in-Stray
-returns-in-Stray c = λ e. rw c.in-Stray.is
+pub returns-in_err-verdict : goal.returns-in_err-verdict
+returns-in_err-verdict c = λ e. ap answer_of (raised _ _ c.from_residual.ensures.1) ∙ rw c.in_err-verdict.was
