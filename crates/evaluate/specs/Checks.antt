@@ -1,6 +1,6 @@
 -- What `check` is lent and leaves, as the definitions have it.
 -- Assumes nothing.
-use Rattle.std.specs.Prelude.{ℕ, ◌*◌, ◌≤◌, ◌≡◌, Bool, true, false, List, ◌++◌, drop, replicate}
+use Rattle.std.specs.Prelude.{ℕ, ◌*◌, ◌≤◌, ◌≡◌, Bool, true, false, List, ◌++◌, drop, replicate, Option, Some, None, Ok, Err}
 use Rattle.theory.specs.Limits.{Limited}
 use Rattle.theory.specs.declared.Counts.{Counts}
 use Rattle.kept.specs.SetOf.{words64}
@@ -9,11 +9,8 @@ use Rattle.kept.specs.Candidate.{Candidate}
 use Rattle.kept.specs.Outcome.{Outcome}
 use Rattle.kept_laws.specs.Given.{used_by}
 use Rattle.difference.specs.Marks.{Marked, Between}
-use Rattle.update.specs.Results.{answer_of}
-use Rattle.update.specs.declared.Checked.{Checked}
-use Rattle.update.specs.declared.Checked.TheVariants.{Accepted, Refused}
-use Rattle.evaluate.specs.declared.Change.{Change}
-use Rattle.evaluate.specs.declared.Change.TheVariants.{Few, Fresh}
+use Rattle.difference.specs.declared.Differing.{Differing}
+use Rattle.update.specs.Results.{Checked, answer_of}
 use Rattle.evaluate.specs.declared.Plan.{Plan}
 
 -- the slices are as long as the counts say
@@ -27,14 +24,14 @@ pub record Lent (t : Counts) (candidate nodes operands roots producers kept : �
   pub kept_long : used_by t ≤ kept
 
 -- whether the check is kept
-abbrev pub keeps_by : Change → Bool
-keeps_by (Few first end) = true
-keeps_by Fresh = false
+abbrev pub keeps_by : Option Differing → Bool
+keeps_by (Some d) = true
+keeps_by None = false
 
 -- then the pairs that differ are marked, and lie between these
-abbrev pub Spans : Counts → List ℕ → List ℕ → List ℕ → Change → Type 0
-Spans t kept new marks (Few first end) = Marked t kept new marks × Between t kept new first end
-Spans t kept new marks Fresh = Unit {0}
+abbrev pub Spans : Counts → List ℕ → List ℕ → List ℕ → Option Differing → Type 0
+Spans t kept new marks (Some d) = Marked t kept new marks × Between t kept new d.first d.end
+Spans t kept new marks None = Unit {0}
 
 abbrev pub tables_of : Counts → Plan → List ℕ → List ℕ → List ℕ → List ℕ → List ℕ → Tables
 tables_of t plan nodes operands roots producers readers =
@@ -49,5 +46,5 @@ outcome_of r words = record { answer = answer_of r; words = words }
 
 -- the words once refusal 17 has cleared the first n
 unfoldable pub settled : ℕ → Checked → List ℕ → List ℕ
-settled n (Accepted v count) ws = ws
-settled n (Refused r) ws = replicate n 0 ++ drop n ws
+settled n (Ok a) ws = ws
+settled n (Err r) ws = replicate n 0 ++ drop n ws

@@ -1,6 +1,6 @@
 -- A check from the parts that calls answer and leave.
 -- Assumes nothing.
-use Rattle.std.specs.Prelude.{ℕ, suc, ◌<◌, ◌≤◌, ◌+◌, ◌-◌, ◌*◌, ◌/◌, max, true, false, List, ◌++◌, leb, length, get_or, Err}
+use Rattle.std.specs.Prelude.{ℕ, suc, ◌<◌, ◌≤◌, ◌+◌, ◌-◌, ◌*◌, ◌/◌, max, true, false, List, ◌++◌, leb, length, get_or, Option, Some, None, Ok, Err}
 use Rattle.std.proofs.Common.{arith, ◌∙◌}
 use Rattle.std.proofs.Math.Path.{◌≡◌, ap, ap₂, sym}
 use Rattle.std.proofs.Math.ListN.{drop, replicate}
@@ -39,13 +39,10 @@ use Rattle.kept_laws.specs.Written.{of_written}
 use Rattle.kept_laws.specs.Wrote.{Beside, beside_same}
 use Rattle.complete.specs.Laid.{Laid}
 use Rattle.difference.specs.Marks.{Marked, Between}
-use Rattle.verdict.specs.declared.Verdict as verdicts
-use Rattle.update.specs.declared.Checked as checks
-use Rattle.update.specs.declared.Checked.TheVariants as cases
-use Rattle.update.specs.Results.{Results}
+use Rattle.update.specs.declared.Accepted.{Accepted}
+use Rattle.update.specs.Results.{Checked, Results}
 use Rattle.update.specs.ResultsLaws.{refused_results, results_by, results_then}
-use Rattle.evaluate.specs.declared.Change.{Change}
-use Rattle.evaluate.specs.declared.Change.TheVariants.{Few, Fresh}
+use Rattle.difference.specs.declared.Differing.{Differing}
 use Rattle.evaluate.specs.Checks.{keeps_by, Spans, outcome_of, settled}
 
 -- ---- what the tests give
@@ -79,8 +76,8 @@ passed T c size e =
 
 -- ---- whether it is kept
 
-pub spans_few : (t : Counts) (kept new marks : List ℕ) (r : Change) (first end : ℕ) → Spans t kept new marks r → r ≡ Few first end → Marked t kept new marks × Between t kept new first end
-spans_few t kept new marks r first end s p = rw p at s
+pub spans_few : (t : Counts) (kept new marks : List ℕ) (r : Option Differing) (d : Differing) → Spans t kept new marks r → r ≡ Some d → Marked t kept new marks × Between t kept new d.first d.end
+spans_few t kept new marks r d s p = rw p at s
 
 module _ (T : Tables) (J : Interpretation) (ws : List ℕ) where
   abbrev e : Evaluation
@@ -106,22 +103,22 @@ module _ (T : Tables) (J : Interpretation) (ws : List ℕ) where
     few_changed l = sym (counted ∙ le-leb n m l)
 
   -- by the case that the comparison answers
-  module _ (r : Change) (k : keeps_by r ≡ is_kept 64 8 T J e) where
-    pub kept_few : (first end : ℕ) → r ≡ Few first end → is_kept 64 8 T J e ≡ true
-    kept_few first end p = sym k ∙ ap keeps_by p
+  module _ (r : Option Differing) (k : keeps_by r ≡ is_kept 64 8 T J e) where
+    pub kept_few : (d : Differing) → r ≡ Some d → is_kept 64 8 T J e ≡ true
+    kept_few d p = sym k ∙ ap keeps_by p
 
-    pub kept_fresh : r ≡ Fresh → is_kept 64 8 T J e ≡ false
+    pub kept_fresh : r ≡ None → is_kept 64 8 T J e ≡ false
     kept_fresh p = sym k ∙ ap keeps_by p
 
   -- ---- fresh
 
   module _ (long : used T ≤ length ws) (r : Admission) (mid : List ℕ) (laid : Laid T ws (tables_admission T J) (evaluation.fresh T J) r mid) where
-    pub fresh_refused : (x : Refusal) → r ≡ Err x → Results T ws (fresh_result T J (tables_admission T J)) (cases.Refused x) mid
+    pub fresh_refused : (x : Refusal) → r ≡ Err x → Results T ws (fresh_result T J (tables_admission T J)) (Err x) mid
     unfolding fresh_result
     fresh_refused x p = refused_results T ws (fresh_result T J (tables_admission T J)) x mid (rw (sym laid.0 ∙ p)) laid.2
 
     -- and the walk goes on from it, with nothing left
-    pub fresh_done : r ≡ admitted → (c : checks.Checked) (after : List ℕ) → Results T mid (resumed T (node_count T) (walk T (suc (node_count T)) (of_words T mid))) c after
+    pub fresh_done : r ≡ admitted → (c : Checked) (after : List ℕ) → Results T mid (resumed T (node_count T) (walk T (suc (node_count T)) (of_words T mid))) c after
         → Results T ws (fresh_result T J (tables_admission T J)) c after
     unfolding fresh_result
     fresh_done p c after h =
@@ -136,11 +133,11 @@ module _ (T : Tables) (J : Interpretation) (ws : List ℕ) where
 
   -- ---- one of the two
 
-  pub result_many : root_count T < T.made → Results T ws (result 64 8 T J e) (cases.Refused (BadEntry 0)) ws
+  pub result_many : root_count T < T.made → Results T ws (result 64 8 T J e) (Err (BadEntry 0)) ws
   unfolding result
   result_many l = refused_results T ws (result 64 8 T J e) (BadEntry 0) ws (rw (lt-ltb (root_count T) T.made l)) (beside_same T ws)
 
-  module _ (few : T.made ≤ root_count T) (c : checks.Checked) (after : List ℕ) where
+  module _ (few : T.made ≤ root_count T) (c : Checked) (after : List ℕ) where
     pub result_kept : is_kept 64 8 T J e ≡ true → Results T ws (kept_result T (kept_walk T J e)) c after → Results T ws (result 64 8 T J e) c after
     unfolding result
     result_kept k h = results_by T ws (result 64 8 T J e) (kept_result T (kept_walk T J e)) c after (rw (le-ltb (root_count T) T.made few, k)) h
@@ -152,7 +149,7 @@ module _ (T : Tables) (J : Interpretation) (ws : List ℕ) where
 -- ---- the outcome
 
 module _ (T : Tables) (c : Candidate) (ws : List ℕ) where
-  pub outcome_refused : (r : Refusal) → Err r ≡ tests T c (length ws) → outcome_of (cases.Refused r) ws ≡ outcome 64 8 T c ws
+  pub outcome_refused : (r : Refusal) → Err r ≡ tests T c (length ws) → outcome_of (Err r) ws ≡ outcome 64 8 T c ws
   unfolding outcome outcome_at
   outcome_refused r e = rw (sym e)
 
@@ -164,24 +161,24 @@ module _ (T : Tables) (c : Candidate) (ws : List ℕ) where
       (ap (λ n. drop n mid) split ∙ sym (drop-drop (listed T - used T) (used T) mid) ∙ ap (drop (listed T - used T)) b.behind
       ∙ drop-drop (listed T - used T) (used T) ws ∙ ap (λ n. drop n ws) (sym split))
 
-  pub outcome_checked : admitted ≡ tests T c (length ws) → (r : checks.Checked) (mid : List ℕ) → Results T ws (result 64 8 T (member 64 (listed_words T c)) (of_words T ws)) r mid
+  pub outcome_checked : admitted ≡ tests T c (length ws) → (r : Checked) (mid : List ℕ) → Results T ws (result 64 8 T (member 64 (listed_words T c)) (of_words T ws)) r mid
       → outcome_of r (settled (listed T) r mid) ≡ outcome 64 8 T c ws
   unfolding outcome outcome_at settled atoms_of
   outcome_checked e r mid h = rw (sym e) (go r (result 64 8 T (member 64 (listed_words T c)) (of_words T ws)) h)
     where
-      go : (r : checks.Checked) (x : Result) → Results T ws x r mid → outcome_of r (settled (listed T) r mid) ≡ outcomes.concluded T ws x
-      go (cases.Accepted v n) (check.accepted w m d) h = ap₂ (λ a l. record { answer = a; words = l }) h.0 h.1
-      go (cases.Accepted v n) (check.refused s) h = let p = h.0 in let z : ◌≡◌ {A = ℕ} 0 1 = cc in absurd (omega arith)
-      go (cases.Refused s) (check.accepted w m d) h = let p = h.0 in let z : ◌≡◌ {A = ℕ} 0 1 = cc in absurd (omega arith)
-      go (cases.Refused s) (check.refused t) h = ap₂ (λ a l. record { answer = a; words = l }) h.0 (same_past mid h.1)
+      go : (r : Checked) (x : Result) → Results T ws x r mid → outcome_of r (settled (listed T) r mid) ≡ outcomes.concluded T ws x
+      go (Ok a) (check.accepted w m d) h = ap₂ (λ a l. record { answer = a; words = l }) h.0 h.1
+      go (Ok a) (check.refused s) h = let p = h.0 in let z : ◌≡◌ {A = ℕ} 0 1 = cc in absurd (omega arith)
+      go (Err s) (check.accepted w m d) h = let p = h.0 in let z : ◌≡◌ {A = ℕ} 0 1 = cc in absurd (omega arith)
+      go (Err s) (check.refused t) h = ap₂ (λ a l. record { answer = a; words = l }) h.0 (same_past mid h.1)
 
 -- ---- the words after it
 
-module _ (n : ℕ) (x : checks.Checked) (ws : List ℕ) where
-  pub settled_accepted : (v : verdicts.Verdict) (k : ℕ) → x ≡ cases.Accepted v k → ws ≡ settled n x ws
+module _ (n : ℕ) (x : Checked) (ws : List ℕ) where
+  pub settled_accepted : (a : Accepted) → x ≡ Ok a → ws ≡ settled n x ws
   unfolding settled
-  settled_accepted v k e = rw e
+  settled_accepted a e = rw e
 
-  pub settled_refused : (r : Refusal) → x ≡ cases.Refused r → replicate n 0 ++ drop n ws ≡ settled n x ws
+  pub settled_refused : (r : Refusal) → x ≡ Err r → replicate n 0 ++ drop n ws ≡ settled n x ws
   unfolding settled
   settled_refused r e = rw e

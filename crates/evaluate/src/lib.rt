@@ -15,9 +15,10 @@ ghost use Rattle.kept_laws.specs.Given.{used_by, sized};
 ghost use Rattle.update.specs.Results.{lent, Results};
 ghost use Rattle.evaluate.specs.Checks.{Lent, keeps_by, Spans, tables_of, candidate_of, outcome_of, settled};
 
+use difference::Differing;
 use tests::Lengths;
-use theory::{Admission, Counts, Refusal};
-use update::Checked;
+use theory::{Counts, Refusal};
+use update::Accepted;
 
 // A plan's stamp and how many producers it has.
 #[derive(Clone, Copy)]
@@ -26,30 +27,23 @@ pub struct Plan {
     pub producers: usize,
 }
 
-// Few atoms changed, and only in pairs of words `first` to `end`: the check is kept. Or it is fresh.
-#[derive(Clone, Copy)]
-pub enum Change {
-    Few(usize, usize),
-    Fresh,
-}
-
-// Whether a check of this stamp is held and at most max(64, atoms / 8) atoms changed; then the pairs of words that differ are marked.
-fn compare(counts: Counts, candidate: &[u64], kept: &[u32], marks: &mut [u64]) -> Change
+// How the candidates differ, if a check of this stamp is held and at most max(64, atoms / 8) atoms changed: then the pairs of words that differ are marked, and the check is kept. If none, it is fresh.
+fn compare(counts: Counts, candidate: &[u64], kept: &[u32], marks: &mut [u64]) -> Option<Differing>
     requires { Limited counts × (length candidate.now ≡ words64 counts.atoms) × (used_by counts ≤ length kept.now) × (words64 counts.atoms ≤ 64 * length marks.old) }
     ensures keeps { (T : Tables) → keeps_by result ≡ is_kept 64 8 (sized counts T) (member 64 candidate.now) (of_words (sized counts T) kept.now) }
     ensures spans { Spans counts kept.now candidate.now marks.new result }
 {
     if kept[0] != 1 {
-        return Change::Fresh;
+        return None;
     }
     if kept[1] != counts.stamp {
-        return Change::Fresh;
+        return None;
     }
     let d = difference::difference(counts, candidate, kept, marks);
-    if d.changes > words::greater(64, counts.atoms / 8) {
-        return Change::Fresh;
+    if d.changes > usize::max(64, counts.atoms / 8) {
+        return None;
     }
-    Change::Few(d.first, d.end)
+    Some(d)
 }
 
 // A fresh check: the evaluation laid anew, on which nothing waits, then the verdict.
@@ -63,26 +57,24 @@ fn fresh(
     producers: &[u32],
     readers: &[u64],
     kept: &mut [u32],
-) -> Checked
+) -> Result<Accepted, Refusal>
     requires { Lent counts (length candidate.now) (length nodes.now) (length operands.now) (length roots.now) (length producers.now) (length kept.old) × (reader_words counts ≤ length readers.now) × (made ≤ counts.roots) × Within counts.atoms (member 64 candidate.now) }
     ensures { (T : Tables) → Results (lent counts made nodes.now operands.now roots.now producers.now readers.now T) kept.old (fresh_result (lent counts made nodes.now operands.now roots.now producers.now readers.now T) (member 64 candidate.now) (tables_admission (lent counts made nodes.now operands.now roots.now producers.now readers.now T) (member 64 candidate.now))) result kept.new }
 {
-    match complete::complete(
+    complete::complete(
         counts, made, candidate, nodes, operands, roots, producers, kept,
-    ) {
-        Err(r) => Checked::Refused(r),
-        Ok(()) => update::walk(
-            counts,
-            made,
-            nodes,
-            operands,
-            roots,
-            producers,
-            readers,
-            kept,
-            counts.nodes,
-        ),
-    }
+    )?;
+    update::walk(
+        counts,
+        made,
+        nodes,
+        operands,
+        roots,
+        producers,
+        readers,
+        kept,
+        counts.nodes,
+    )
 }
 
 // The check of a candidate that passed the tests, of a plan with at most as many producers as roots; `candidate` is its listed words, `marks` a set of pairs of them.
@@ -97,16 +89,16 @@ fn evaluate_with(
     readers: &[u64],
     kept: &mut [u32],
     marks: &mut [u64],
-) -> Checked
+) -> Result<Accepted, Refusal>
     requires { Lent counts (length candidate.now) (length nodes.now) (length operands.now) (length roots.now) (length producers.now) (length kept.old) × (reader_words counts ≤ length readers.now) × Within counts.atoms (member 64 candidate.now) × (made ≤ counts.roots) × (words64 counts.atoms ≤ 64 * length marks.old) × (length marks.old ≤ 16) }
     ensures { (T : Tables) → Results (lent counts made nodes.now operands.now roots.now producers.now readers.now T) kept.old (result_of 64 8 (lent counts made nodes.now operands.now roots.now producers.now readers.now T) (member 64 candidate.now) (of_words (lent counts made nodes.now operands.now roots.now producers.now readers.now T) kept.old)) result kept.new }
 {
     match compare(counts, candidate, kept, marks) {
-        Change::Few(first, end) => update::update(
+        Some(d) => update::update(
             counts, made, candidate, nodes, operands, roots, producers, readers, kept, marks,
-            first, end,
+            d.first, d.end,
         ),
-        Change::Fresh => fresh(
+        None => fresh(
             counts, made, candidate, nodes, operands, roots, producers, readers, kept,
         ),
     }
@@ -123,12 +115,12 @@ fn evaluate(
     producers: &[u32],
     readers: &[u64],
     kept: &mut [u32],
-) -> Checked
+) -> Result<Accepted, Refusal>
     requires { Lent counts (length candidate.now) (length nodes.now) (length operands.now) (length roots.now) (length producers.now) (length kept.old) × (reader_words counts ≤ length readers.now) × Within counts.atoms (member 64 candidate.now) }
     ensures { (T : Tables) → Results (lent counts made nodes.now operands.now roots.now producers.now readers.now T) kept.old (result_of 64 8 (lent counts made nodes.now operands.now roots.now producers.now readers.now T) (member 64 candidate.now) (of_words (lent counts made nodes.now operands.now roots.now producers.now readers.now T) kept.old)) result kept.new }
 {
     if made > counts.roots {
-        return Checked::Refused(Refusal::BadEntry(0));
+        return Err(Refusal::BadEntry(0));
     }
     let mut marks = [0u64; 16];
     evaluate_with(
@@ -146,14 +138,18 @@ fn evaluate(
 }
 
 // After refusal 17 the listed words, n of them, are 0.
-fn settle(checked: Checked, kept: &mut [u32], n: usize) -> Checked
+fn settle(
+    checked: Result<Accepted, Refusal>,
+    kept: &mut [u32],
+    n: usize,
+) -> Result<Accepted, Refusal>
     requires { n ≤ length kept.old }
     ensures { (result ≡ checked) × (kept.new ≡ settled n checked kept.old) }
 {
-    let Checked::Refused(_) = checked else {
+    let Err(_) = checked else {
         return checked;
     };
-    words::clear(&mut kept[..n]);
+    kept[..n].fill(0);
     checked
 }
 
@@ -169,7 +165,7 @@ pub fn check(
     producers: &[u32],
     readers: &[u64],
     kept: &mut [u32],
-) -> Checked
+) -> Result<Accepted, Refusal>
     ensures { outcome_of result kept.new ≡ outcome 64 8 (tables_of counts plan nodes.now operands.now roots.now producers.now readers.now) (candidate_of stamp candidate.now) kept.old }
 {
     // named again, so that the compiler hands the parts of each on by value
@@ -188,23 +184,19 @@ pub fn check(
         readers: readers.len(),
         kept: kept.len(),
     };
-    match tests::tests(counts, plan.stamp, stamp, candidate, l) {
-        Err(r) => Checked::Refused(r),
-        Ok(()) => {
-            let words = (counts.atoms + 63) / 64;
-            let checked = evaluate(
-                counts,
-                plan.producers,
-                &candidate[..words],
-                nodes,
-                operands,
-                roots,
-                producers,
-                readers,
-                kept,
-            );
-            let n = 16 + 2 * counts.nodes + 3 * counts.atoms + counts.roots;
-            settle(checked, kept, n)
-        }
-    }
+    tests::tests(counts, plan.stamp, stamp, candidate, l)?;
+    let words = (counts.atoms + 63) / 64;
+    let checked = evaluate(
+        counts,
+        plan.producers,
+        &candidate[..words],
+        nodes,
+        operands,
+        roots,
+        producers,
+        readers,
+        kept,
+    );
+    let n = 16 + 2 * counts.nodes + 3 * counts.atoms + counts.roots;
+    settle(checked, kept, n)
 }

@@ -9,7 +9,7 @@ ghost use Rattle.kept.specs.Tests.{first_short, stray_bit, tests};
 ghost use Rattle.kept_laws.specs.Given.{sized};
 ghost use Rattle.tests.specs.Lent.{buffers_by, Sizes};
 
-use theory::{Admission, Counts, Refusal};
+use theory::{Counts, Refusal};
 
 // How long the lent buffers are.
 #[derive(Clone, Copy)]
@@ -76,12 +76,8 @@ pub fn tests(counts: Counts, plan: u32, stamp: u32, candidate: &[u64], l: Length
     requires { l.candidate ≡ length candidate.now }
     ensures { (T : Tables) → Sizes T counts plan l → result ≡ tests T (record { stamp = stamp; words = candidate.now }) l.kept }
 {
-    if let Err(r) = theory::limits(counts) {
-        return Err(r);
-    }
-    if let Err(r) = short_buffer(counts, l) {
-        return Err(r);
-    }
+    theory::limits(counts)?;
+    short_buffer(counts, l)?;
     if stamp != counts.stamp {
         return Err(Refusal::ForeignStamp);
     }

@@ -6,7 +6,7 @@ use Rattle.evaluate.proofs.evaluate_with.Goals as goal
 
 pub update-requires : goal.update-requires
 update-requires c = let p = c.requires in
-    let s = spans_few c.args.counts c.args.kept.now c.args.candidate.now _ _ _ _ c.compare.ensures.spans c.in-Few.is in (
+    let s = spans_few c.args.counts c.args.kept.now c.args.candidate.now _ _ _ c.compare.ensures.spans c.in-Some.is in (
       record {
         limited = p.0.limited;
         few = p.3;
@@ -25,10 +25,10 @@ update-requires c = let p = c.requires in
       s.1,
     )
 
-pub returns-in-Few : goal.returns-in-Few
-returns-in-Few c = let a = c.args in
-    λ T. result_kept (lent a.counts a.made a.nodes.now a.operands.now a.roots.now a.producers.now a.readers.now T) (member 64 a.candidate.now) a.kept.now c.requires.3 c.update.result _ (kept_few (lent a.counts a.made a.nodes.now a.operands.now a.roots.now a.producers.now a.readers.now T) (member 64 a.candidate.now) a.kept.now _ (c.compare.ensures.keeps (lent a.counts a.made a.nodes.now a.operands.now a.roots.now a.producers.now a.readers.now T)) _ _ c.in-Few.is) (c.update.ensures (lent a.counts a.made a.nodes.now a.operands.now a.roots.now a.producers.now a.readers.now T))
+pub returns-in-Some : goal.returns-in-Some
+returns-in-Some c = let a = c.args in
+    λ T. result_kept (lent a.counts a.made a.nodes.now a.operands.now a.roots.now a.producers.now a.readers.now T) (member 64 a.candidate.now) a.kept.now c.requires.3 c.update.result _ (kept_few (lent a.counts a.made a.nodes.now a.operands.now a.roots.now a.producers.now a.readers.now T) (member 64 a.candidate.now) a.kept.now _ (c.compare.ensures.keeps (lent a.counts a.made a.nodes.now a.operands.now a.roots.now a.producers.now a.readers.now T)) _ c.in-Some.is) (c.update.ensures (lent a.counts a.made a.nodes.now a.operands.now a.roots.now a.producers.now a.readers.now T))
 
-pub returns-in-Fresh : goal.returns-in-Fresh
-returns-in-Fresh c = let a = c.args in
-    λ T. result_fresh (lent a.counts a.made a.nodes.now a.operands.now a.roots.now a.producers.now a.readers.now T) (member 64 a.candidate.now) a.kept.now c.requires.3 c.fresh.result _ (kept_fresh (lent a.counts a.made a.nodes.now a.operands.now a.roots.now a.producers.now a.readers.now T) (member 64 a.candidate.now) a.kept.now _ (c.compare.ensures.keeps (lent a.counts a.made a.nodes.now a.operands.now a.roots.now a.producers.now a.readers.now T)) c.in-Fresh.is) (c.fresh.ensures (lent a.counts a.made a.nodes.now a.operands.now a.roots.now a.producers.now a.readers.now T))
+pub returns-in-None : goal.returns-in-None
+returns-in-None c = let a = c.args in
+    λ T. result_fresh (lent a.counts a.made a.nodes.now a.operands.now a.roots.now a.producers.now a.readers.now T) (member 64 a.candidate.now) a.kept.now c.requires.3 c.fresh.result _ (kept_fresh (lent a.counts a.made a.nodes.now a.operands.now a.roots.now a.producers.now a.readers.now T) (member 64 a.candidate.now) a.kept.now _ (c.compare.ensures.keeps (lent a.counts a.made a.nodes.now a.operands.now a.roots.now a.producers.now a.readers.now T)) c.in-None.is) (c.fresh.ensures (lent a.counts a.made a.nodes.now a.operands.now a.roots.now a.producers.now a.readers.now T))
