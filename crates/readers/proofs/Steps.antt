@@ -4,6 +4,7 @@ use Prim.Native.Nat.{ℕ, zero, suc, ◌+◌, ◌-◌, ◌*◌, ◌/◌, ◌%◌
 use native.Mathlib.Nat.{zero-add, add-zero}
 use native.Mathlib.Omega.{arith}
 use mathlib.Core.Path.{◌≡◌, refl, ap, ap₂, sym, ◌∙◌}
+use mathlib.Core.Logic.{◌⊎◌, inl, inr}
 use mathlib.Core.List.{List, [], ◌∷◌, map}
 use lib.Bits.{bit_xor, xor_block, xor_zero_r, xor_self, xor_add_and, and_le_l, and_le_r}
 use lib.ListN.{length, get_or}
@@ -11,6 +12,7 @@ use Rattle.theory.specs.Node.{node_at, span, operands_of}
 use Rattle.theory.specs.declared.Node.{Node}
 use Rattle.theory.specs.declared.Node.TheVariants.{Atom, False, Implies, And, Or, Unknown}
 use Rattle.readers.specs.Incidences.{Item, item, atom_slot, operand_items, node_items, body_items, producer_items, root_items}
+use Rattle.readers.specs.Laid.{part}
 use Rattle.readers.specs.Reader.{node_reader, producer_reader, root_reader, by_tag, reading_of}
 use Rattle.readers.specs.ReaderLaws.{tag_of, index_of, read-parts}
 use Rattle.readers.specs.declared.Reading.{Reading}
@@ -33,25 +35,19 @@ module _ (n : ℕ) (nodes operands : List ℕ) (k : ℕ) (view : Node) (p : view
   unfolding node_items
   atom_items a q = known (Atom a) q
 
-  pub false_items : view ≡ False → here ≡ []
+  pub no_items : (view ≡ False) ⊎ (view ≡ Unknown) → here ≡ []
   unfolding node_items
-  false_items q = known False q
+  no_items = elim [ inl q ↦ known False q | inr q ↦ known Unknown q ]
 
   pub implies_items : (l r : ℕ) → view ≡ Implies l r → here ≡ item l (node_reader k) ∷ item r (node_reader k) ∷ []
   unfolding node_items operand_items operands_of
   implies_items l r q = known (Implies l r) q
 
-  pub and_items : (s c : ℕ) → view ≡ And s c → here ≡ map (λ o. item o (node_reader k)) (span operands s c)
-  unfolding node_items operand_items operands_of
-  and_items s c q = known (And s c) q
-
-  pub or_items : (s c : ℕ) → view ≡ Or s c → here ≡ map (λ o. item o (node_reader k)) (span operands s c)
-  unfolding node_items operand_items operands_of
-  or_items s c q = known (Or s c) q
-
-  pub unknown_items : view ≡ Unknown → here ≡ []
-  unfolding node_items
-  unknown_items q = known Unknown q
+  pub group_items : (s c : ℕ) → (view ≡ And s c) ⊎ (view ≡ Or s c) → here ≡ map (λ o. item o (node_reader k)) (part operands s (s + c))
+  unfolding node_items operand_items operands_of span
+  group_items s c q =
+      let e : s + c - s ≡ c = omega arith in
+      rw e (elim q [ inl a ↦ known (And s c) a | inr o ↦ known (Or s c) o ])
 
 -- a body at hand
 module _ (producers : List ℕ) (i body : ℕ) (p : body ≡ get_or producers (4 * i + 1) 0) where
