@@ -8,8 +8,11 @@ use mathlib.Core.Logic.{⊎_elim}
 use mathlib.Core.Bool.{Bool, true, false, cond}
 use mathlib.Core.List.{List, [], ◌∷◌, ◌++◌}
 use lib.Dec.{eqb}
-use lib.ListN.{length, get_or, set, drop, length-set, length-drop, length-append}
-use lib.Seq.{get_or-set_same, get_or-set_other, get_or-drop, drop-set-lt, drop-drop}
+use borrow.Rule.Slice.PartMut.{put_mid}
+use Rattle.std.proofs.lemmas.List.{get_or-replicate, length-replicate}
+use Rattle.std.proofs.lemmas.Slice.{drop-append-drop}
+use lib.ListN.{length, get_or, set, take, drop, replicate, length-set, length-drop, length-append, get_or-append}
+use lib.Seq.{length-take-le, get_or-set_same, get_or-set_other, get_or-drop, drop-set-lt, drop-drop}
 use borrow.Author.Tests.{eq-eqb, ne_eqb}
 use Rattle.base.specs.Tests.{equal_or, below_or}
 use Rattle.readers.specs.Joined.{joined, joined_agree, joined-more, joined-none}
@@ -114,19 +117,20 @@ head_self n b P xs ys h = record { first = h.first; each = h.each; behind = refl
 
 -- ---- clearing
 
-pub clear_none : (n : ℕ) (words : List ℕ) → n + 1 ≤ length words → Head n (n + 1) (λ s x. s < 0 → x ≡ 0) words (set words 0 (n + 1))
-clear_none n words h =
-    record {
-      first = get_or-set_same words 0 (n + 1) 0 (omega arith);
-      each = λ s l m. absurd (omega arith);
-      behind = drop-set-lt (n + 1) words 0 (n + 1) (omega arith);
-      long = length-set words 0 (n + 1);
-    }
-
-pub clear_more : (n i : ℕ) (before words : List ℕ) → i < n → n + 1 ≤ length before → Head n (n + 1) (λ s x. s < i → x ≡ 0) before words
-    → Head n (n + 1) (λ s x. s < i + 1 → x ≡ 0) before (set words (i + 1) 0)
-clear_more n i before words l room h =
-    head_set n (n + 1) _ _ before words i 0 l (omega arith) room h (λ _. refl) (λ r x ne p m. p (omega arith))
+-- the first word says where entries begin, and the n behind it are 0
+pub cleared : (n k : ℕ) (words zeros : List ℕ) → n + 1 ≤ length words → k ≡ n → zeros ≡ replicate (length (take k (drop 1 (set words 0 (n + 1))))) 0
+    → Head n (n + 1) Zero words (put_mid 1 k (set words 0 (n + 1)) zeros)
+cleared n k [] zeros h a b = absurd (omega arith)
+cleared n k (x ∷ xs) zeros h a b =
+    let e : zeros ≡ replicate n 0 = b ∙ ap (λ m. replicate m 0) (ap (λ j. length (take j xs)) a ∙ length-take-le n xs (omega arith)) in
+    let long : length (replicate {A = ℕ} n 0) ≡ n = length-replicate n 0 in
+    rw (a, e)
+    (record {
+      first = refl;
+      each = λ s l. rw (add-one s) (get_or-append (replicate n 0) (drop n xs) 0 s (omega arith) ∙ get_or-replicate n s 0 0 l);
+      behind = rw (add-one n) (drop-append-drop n xs (replicate n 0) n (omega arith) long);
+      long = omega (arith, length-append (replicate {A = ℕ} n 0) (drop n xs), length-drop n xs, long);
+    })
 
 -- ---- counting
 

@@ -1,6 +1,6 @@
 -- What a word says, and which items the node, the body or the root at hand makes.
 -- Assumes nothing.
-use Prim.Native.Nat.{ℕ, zero, suc, ◌+◌, ◌-◌, ◌*◌, ◌/◌, ◌%◌, ◌^◌, ◌<◌}
+use Prim.Native.Nat.{ℕ, zero, suc, ◌+◌, ◌-◌, ◌*◌, ◌/◌, ◌%◌, ◌^◌, ◌<◌, ◌≤◌}
 use native.Mathlib.Nat.{zero-add, add-zero}
 use native.Mathlib.Omega.{arith}
 use mathlib.Core.Path.{◌≡◌, refl, ap, ap₂, sym, ◌∙◌}
@@ -49,15 +49,15 @@ module _ (n : ℕ) (nodes operands : List ℕ) (k : ℕ) (view : Node) (p : view
       let e : s + c - s ≡ c = omega arith in
       rw e (elim q [ inl a ↦ known (And s c) a | inr o ↦ known (Or s c) o ])
 
--- a body at hand
-module _ (producers : List ℕ) (i body : ℕ) (p : body ≡ get_or producers (4 * i + 1) 0) where
-  pub body_none : body ≡ 0 → producer_items producers i ≡ []
+-- a producer's second word at hand
+module _ (producers : List ℕ) (i word : ℕ) (p : word ≡ get_or producers (4 * i + 1) 0) where
+  pub body_none : (1 ≤ word → ⊥) → producer_items producers i ≡ []
   unfolding producer_items
-  body_none q = rw (← p, q)
+  body_none none = let z : word ≡ 0 = omega arith in rw (← p, z)
 
-  pub body_one : (e : ℕ) → e ≡ producer_reader i → (body ≡ 0 → ⊥) → producer_items producers i ≡ item (body - 1) e ∷ []
+  pub body_one : (b e : ℕ) → (1 ≤ word) × (b ≡ word - 1) → e ≡ producer_reader i → producer_items producers i ≡ item b e ∷ []
   unfolding producer_items
-  body_one e q some = let more : body ≡ suc (body - 1) = omega arith in ap (body_items i) (sym p ∙ more) ∙ rw q
+  body_one b e some q = let more : word ≡ suc b = omega (arith, some.0, some.1) in ap (body_items i) (sym p ∙ more) ∙ rw q
 
 pub root_one : (roots : List ℕ) (i o e : ℕ) → o ≡ get_or roots i 0 → e ≡ root_reader i → root_items roots i ≡ item o e ∷ []
 unfolding root_items

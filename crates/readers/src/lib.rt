@@ -87,17 +87,15 @@ fn clear(table: &mut [u64], n: usize)
     ensures { Head n (n + 1) Zero table.old table.new }
 {
     table[0] = (n + 1) as u64;
-    let mut i = 0;
-    while i < n {
-        table[i + 1] = 0;
-        i += 1;
-    }
+    table[1..n + 1].fill(0);
 }
 
 // What one pass over the incidences does with each entry of a list.
 trait Pass {
+    // When a list has room for one more.
     ghost room: { ℕ → List ℕ → Type 0 };
 
+    // The table behind it.
     ghost after: { ℕ → ℕ → List ℕ → List ℕ };
 
     fn enter(table: &mut [u64], slot: usize, entry: u64)
@@ -182,9 +180,8 @@ fn pass_producers<P: Pass>(producers: &[u32], p: usize, table: &mut [u64])
     ensures { table.new ≡ passed_all P.after (joined (producer_items producers.now) 0 p) table.old }
 {
     for i in 0..p {
-        let body = words::word(producers, 4 * i + 1);
-        if body != 0 {
-            P::enter(table, body - 1, Reader::producer(i).0);
+        if let Some(body) = words::word(producers, 4 * i + 1).checked_sub(1) {
+            P::enter(table, body, Reader::producer(i).0);
         }
     }
 }
@@ -223,12 +220,10 @@ fn sum(table: &mut [u64], n: usize)
     ensures { Head n (n + 1) (Summed table.old n) table.old table.new }
 {
     let mut start = n + 1;
-    let mut i = 0;
-    while i < n {
+    for i in 0..n {
         let size = words::word64(table, i + 1);
         table[i + 1] = start as u64;
-        start = start + size;
-        i += 1;
+        start += size;
     }
 }
 
@@ -264,13 +259,7 @@ pub fn table_words(counts: Counts) -> usize
 fn ordered(start: usize, end: usize, listed: usize) -> bool
     ensures { result ≡ (leb start end && leb end listed) }
 {
-    if start > end {
-        return false;
-    }
-    if end > listed {
-        return false;
-    }
-    true
+    start <= end && end <= listed
 }
 
 // Whether list s of any table, which starts at `start`, has its two starts in order and within the first `listed` words.
