@@ -220,9 +220,9 @@ fn sum(table: &mut [u64], n: usize)
     ensures { Head n (n + 1) (Summed table.old n) table.old table.new }
 {
     let mut start = n + 1;
-    for i in 0..n {
-        let size = words::word64(table, i + 1);
-        table[i + 1] = start as u64;
+    for word in &mut table[1..n + 1] {
+        let size = *word as usize;
+        *word = start as u64;
         start += size;
     }
 }

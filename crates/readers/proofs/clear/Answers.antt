@@ -1,6 +1,5 @@
-use native.Mathlib.Omega.{arith}
 use Rattle.readers.proofs.Placement.{cleared}
 use Rattle.readers.proofs.clear.Goals as goal
 
 pub returns : goal.returns
-returns c = cleared _ _ _ _ c.requires (omega arith) (c.fill.ensures.after (λ y e. e))
+returns c = cleared _ _ _ c.requires (c.fill.ensures.after (λ y e. e))
