@@ -7,11 +7,13 @@ use mathlib.Core.Path.{◌≡◌, refl, ap, ap₂, sym, ◌∙◌}
 use mathlib.Core.Logic.{◌⊎◌, inl, inr}
 use mathlib.Core.List.{List, [], ◌∷◌, map}
 use lib.Bits.{bit_xor, xor_block, xor_zero_r, xor_self, xor_add_and, and_le_l, and_le_r}
-use lib.ListN.{length, get_or}
+use lib.ListN.{length, get_or, take}
+use lib.Seq.{length-take-le, get_or-take}
 use Rattle.theory.specs.Node.{node_at, span, operands_of}
 use Rattle.theory.specs.declared.Node.{Node}
 use Rattle.theory.specs.declared.Node.TheVariants.{Atom, False, Implies, And, Or, Unknown}
 use Rattle.readers.specs.Incidences.{Item, item, atom_slot, operand_items, node_items, body_items, producer_items, root_items}
+use Rattle.readers.specs.Joined.{joined, joined_agree}
 use Rattle.readers.specs.Laid.{part}
 use Rattle.readers.specs.Reader.{node_reader, producer_reader, root_reader, by_tag, reading_of}
 use Rattle.readers.specs.ReaderLaws.{tag_of, index_of, read-parts}
@@ -62,6 +64,12 @@ module _ (producers : List ℕ) (i word : ℕ) (p : word ≡ get_or producers (4
 pub root_one : (roots : List ℕ) (i o e : ℕ) → o ≡ get_or roots i 0 → e ≡ root_reader i → root_items roots i ≡ item o e ∷ []
 unfolding root_items
 root_one roots i o e p q = rw (p, q)
+
+pub roots_part : (roots : List ℕ) (n : ℕ) → n ≤ length roots → joined (root_items (take n roots)) 0 (length (take n roots)) ≡ joined (root_items roots) 0 n
+unfolding root_items
+roots_part roots n l =
+    ap (joined (root_items (take n roots)) 0) (length-take-le n roots l)
+    ∙ joined_agree (root_items (take n roots)) (root_items roots) 0 n (λ k a b. ap (λ r. item r (root_reader k) ∷ []) (get_or-take n roots k 0 (omega arith)))
 
 -- a word with the tag at hand
 pub read_as : (x tag : ℕ) (r : Reading) → x / 2 ^ 62 ≡ tag → r ≡ by_tag tag (x % 2 ^ 62) → r ≡ reading_of x

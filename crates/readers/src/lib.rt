@@ -186,13 +186,13 @@ fn pass_producers<P: Pass>(producers: &[u32], p: usize, table: &mut [u64])
     }
 }
 
-// The entries that n root positions make.
-fn pass_roots<P: Pass>(roots: &[u32], n: usize, table: &mut [u64])
-    requires { (n ≤ length roots.now) × FitsAll P.room P.after (joined (root_items roots.now) 0 n) table.old }
-    ensures { table.new ≡ passed_all P.after (joined (root_items roots.now) 0 n) table.old }
+// The entries that root positions make.
+fn pass_roots<P: Pass>(roots: &[u32], table: &mut [u64])
+    requires { FitsAll P.room P.after (joined (root_items roots.now) 0 (length roots.now)) table.old }
+    ensures { table.new ≡ passed_all P.after (joined (root_items roots.now) 0 (length roots.now)) table.old }
 {
-    for i in 0..n {
-        P::enter(table, words::word(roots, i), Reader::root(i).0);
+    for (i, root) in roots.iter().enumerate() {
+        P::enter(table, *root as usize, Reader::root(i).0);
     }
 }
 
@@ -211,7 +211,7 @@ fn pass_all<P: Pass>(
 {
     pass_nodes::<P>(counts, nodes, operands, table);
     pass_producers::<P>(producers, p, table);
-    pass_roots::<P>(roots, counts.roots, table);
+    pass_roots::<P>(&roots[..counts.roots], table);
 }
 
 // Counts become starts: a list's word is the sum of those before it, from where entries begin.
