@@ -31,6 +31,11 @@ pub enum Reading {
 impl Reader {
     pub const SHIFT: u32 = 62;
 
+    // The tags of a producer and of a root position.
+    const PRODUCER: u64 = 2 << Reader::SHIFT;
+
+    const ROOT: u64 = 3 << Reader::SHIFT;
+
     pub fn node(i: usize) -> Reader
         requires { i < 2 ^ 62 }
         ensures { result.0 ≡ node_reader i }
@@ -42,28 +47,28 @@ impl Reader {
         requires { i < 2 ^ 62 }
         ensures { result.0 ≡ producer_reader i }
     {
-        Reader((2u64 << Reader::SHIFT) | (i as u64))
+        Reader(Reader::PRODUCER | i as u64)
     }
 
     pub fn root(i: usize) -> Reader
         requires { i < 2 ^ 62 }
         ensures { result.0 ≡ root_reader i }
     {
-        Reader((3u64 << Reader::SHIFT) | (i as u64))
+        Reader(Reader::ROOT | i as u64)
     }
 
     // The index of a producer's word; any other word gives 2^62 at least, so that one comparison tells both.
     pub fn producer_index(self) -> u64
         ensures { (result < 2 ^ 62 → reading_of self.0 ≡ Producer result) × ((i : ℕ) → reading_of self.0 ≡ Producer i → result ≡ i) }
     {
-        self.0 ^ (2u64 << Reader::SHIFT)
+        self.0 ^ Reader::PRODUCER
     }
 
     // The same of a root position's.
     pub fn root_index(self) -> u64
         ensures { (result < 2 ^ 62 → reading_of self.0 ≡ Root result) × ((i : ℕ) → reading_of self.0 ≡ Root i → result ≡ i) }
     {
-        self.0 ^ (3u64 << Reader::SHIFT)
+        self.0 ^ Reader::ROOT
     }
 
     // What any word says.
