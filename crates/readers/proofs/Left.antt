@@ -111,17 +111,20 @@ module _ (Room : Item → List ℕ → Type 0) (step : Item → List ℕ → Lis
   abbrev of_roots : List Item
   of_roots = joined (root_items roots) 0 t.roots
 
-  module _ (words end : List ℕ) (h : Left Room step (incidences t nodes operands roots producers p) words end) where
-    parts : Fits Room step of_nodes words × Left Room step (of_producers ++ of_roots) (passed step of_nodes words) end
+  abbrev of_all : List Item
+  of_all = incidences t nodes operands roots producers p
+
+  module _ (words : List ℕ) (h : Fits Room step of_all words) where
+    parts : Fits Room step of_nodes words × Left Room step (of_producers ++ of_roots) (passed step of_nodes words) (passed step of_all words)
     unfolding incidences
-    parts = left_part Room step of_nodes (of_producers ++ of_roots) words end h
+    parts = left_part Room step of_nodes (of_producers ++ of_roots) words (passed step of_all words) (left_all Room step of_all words h)
 
     pub nodes_fit : Fits Room step of_nodes words
     nodes_fit = parts.0
 
     module _ (behind : List ℕ) (a : behind ≡ passed step of_nodes words) where
-      later : Fits Room step of_producers behind × Left Room step of_roots (passed step of_producers behind) end
-      later = left_part Room step of_producers of_roots behind end (rw a parts.1)
+      later : Fits Room step of_producers behind × Left Room step of_roots (passed step of_producers behind) (passed step of_all words)
+      later = left_part Room step of_producers of_roots behind (passed step of_all words) (rw a parts.1)
 
       pub producers_fit : Fits Room step of_producers behind
       producers_fit = later.0
@@ -130,5 +133,5 @@ module _ (Room : Item → List ℕ → Type 0) (step : Item → List ℕ → Lis
         pub roots_fit : Fits Room step of_roots last
         roots_fit = rw b later.1.fits
 
-        pub all_passed : (out : List ℕ) → out ≡ passed step of_roots last → out ≡ end
+        pub all_passed : (out : List ℕ) → out ≡ passed step of_roots last → out ≡ passed step of_all words
         all_passed out e = e ∙ rw b later.1.ends

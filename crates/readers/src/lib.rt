@@ -106,9 +106,6 @@ trait Pass {
     fn enter(table: &mut [u64], slot: usize, entry: u64)
         requires { room slot table.old }
         ensures { table.new ≡ after slot entry table.old };
-
-    // A list's word is one of the table's.
-    ghost within: { (s : ℕ) (words : List ℕ) → room s words → s + 1 < length words };
 }
 
 // The first pass: each list's word counts its entries.
@@ -118,8 +115,6 @@ impl Pass for Counting {
     ghost room = { Countable };
 
     ghost after = { λ s e. counted s };
-
-    ghost within = { λ s words h. h.within };
 
     fn enter(table: &mut [u64], slot: usize, _entry: u64) {
         table[slot + 1] += 1;
@@ -133,8 +128,6 @@ impl Pass for Placing {
     ghost room = { Placeable };
 
     ghost after = { placed };
-
-    ghost within = { λ s words h. h.within };
 
     fn enter(table: &mut [u64], slot: usize, entry: u64) {
         let at = words::word64(table, slot + 1);

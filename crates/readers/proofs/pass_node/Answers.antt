@@ -6,9 +6,6 @@ use Rattle.readers.proofs.Left.{room_one, room_first, room_second, pass_none, pa
 use Rattle.readers.proofs.Steps.{atom_items, implies_items, group_items, no_items}
 use Rattle.readers.proofs.pass_node.Goals as goal
 
-pub overflow_add-counts-in-Atom : goal.overflow_add-counts-in-Atom
-overflow_add-counts-in-Atom g c = omega (arith, g.met.P.Pass.within _ _ (room_one _ _ _ _ _ (atom_items _ _ _ _ _ c.view.ensures.value _ c.in-Atom.is) c.requires.3), c.well_formed)
-
 pub enter-requires : goal.enter-requires
 enter-requires g c = room_one _ _ _ _ _ (atom_items _ _ _ _ _ c.view.ensures.value _ c.in-Atom.is) c.requires.3
 
