@@ -1,7 +1,6 @@
 -- What is left of a pass: taken item by item, or the items of one number after the other.
 -- Assumes nothing.
 use Prim.Native.Nat.{ℕ, ◌+◌, ◌-◌, ◌<◌, ◌≤◌}
-use native.Mathlib.Nat.{sub-zero}
 use mathlib.Core.Path.{◌≡◌, refl, ◌∙◌}
 use mathlib.Core.List.{List, [], ◌∷◌, ◌++◌, map}
 use lib.ListN.{length, get_or, drop, drop_of_length-le}
@@ -75,22 +74,18 @@ module _ {A : Type 0} (Room : A → List ℕ → Type 0) (step : A → List ℕ 
     room_second out q = rw q (rw e at h).1.0
 
   -- the lists of the numbers from i up to n are left
-  module _ (f : ℕ → List A) where
-    pub numbers_all : (n : ℕ) (words : List ℕ) → Fits Room step (joined f 0 n) words → Left (joined f 0 (n - 0)) words (passed step (joined f 0 n) words)
-    numbers_all n words h = rw (sub-zero n) (left_all (joined f 0 n) words h)
+  module _ (f : ℕ → List A) (i n : ℕ) (words end : List ℕ) (h : Left (joined f i (n - i)) words end) where
+    turn : i < n → Fits Room step (f i) words × Left (joined f (i + 1) (n - (i + 1))) (passed step (f i) words) end
+    turn l = left_part (f i) (joined f (i + 1) (n - (i + 1))) words end (rw (joined_first f i n l) at h)
 
-    module _ (i n : ℕ) (words end : List ℕ) (h : Left (joined f i (n - i)) words end) where
-      turn : i < n → Fits Room step (f i) words × Left (joined f (i + 1) (n - (i + 1))) (passed step (f i) words) end
-      turn l = left_part (f i) (joined f (i + 1) (n - (i + 1))) words end (rw (joined_first f i n l) at h)
+    pub number_fits : i < n → Fits Room step (f i) words
+    number_fits l = (turn l).0
 
-      pub number_fits : i < n → Fits Room step (f i) words
-      number_fits l = (turn l).0
+    pub number_next : i < n → (out : List ℕ) → out ≡ passed step (f i) words → Left (joined f (i + 1) (n - (i + 1))) out end
+    number_next l out e = rw e (turn l).1
 
-      pub number_next : i < n → (out : List ℕ) → out ≡ passed step (f i) words → Left (joined f (i + 1) (n - (i + 1))) out end
-      number_next l out e = rw e (turn l).1
-
-      pub numbers_done : n ≤ i → words ≡ end
-      numbers_done l = left_none words end (rw (joined_past f i n l) at h)
+    pub numbers_done : n ≤ i → words ≡ end
+    numbers_done l = left_none words end (rw (joined_past f i n l) at h)
 
 -- the elements of a list from i on are left
 module _ (Room : ℕ → List ℕ → Type 0) (step : ℕ → List ℕ → List ℕ) (xs : List ℕ) (i : ℕ) (words end : List ℕ) (h : Left Room step (drop i xs) words end) where

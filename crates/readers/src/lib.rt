@@ -31,9 +31,10 @@ pub enum Reading {
 impl Reader {
     pub const SHIFT: u32 = 62;
 
-    // The tags of a producer and of a root position.
+    // A producer's tag, where it stands in the word.
     const PRODUCER: u64 = 2 << Reader::SHIFT;
 
+    // A root position's.
     const ROOT: u64 = 3 << Reader::SHIFT;
 
     pub fn node(i: usize) -> Reader
@@ -76,7 +77,7 @@ impl Reader {
         ensures { result ≡ reading_of self.0 }
     {
         let word = self.0;
-        let index = (word % (1u64 << Reader::SHIFT)) as usize;
+        let index = (word % (1 << Reader::SHIFT)) as usize;
         match word >> Reader::SHIFT {
             0 => Reading::Node(index),
             2 => Reading::Producer(index),
@@ -92,7 +93,7 @@ fn clear(table: &mut [u64], n: usize)
     ensures { Head n (n + 1) Zero table.old table.new }
 {
     table[0] = (n + 1) as u64;
-    table[1..n + 1].fill(0);
+    table[1..=n].fill(0);
 }
 
 // What one pass over the incidences does with each entry of a list.
@@ -218,7 +219,7 @@ fn sum(table: &mut [u64], n: usize)
     ensures { Head n (n + 1) (Summed table.old n) table.old table.new }
 {
     let mut start = n + 1;
-    for word in &mut table[1..n + 1] {
+    for word in &mut table[1..=n] {
         let size = *word as usize;
         *word = start as u64;
         start += size;
