@@ -1,7 +1,7 @@
 pub mod Steps
 pub mod Few
 pub mod Placement
-pub mod Pass
+pub mod Left
 pub mod Below
 pub mod Readers
 pub mod Table

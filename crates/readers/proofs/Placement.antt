@@ -8,12 +8,15 @@ use mathlib.Core.Logic.{⊎_elim}
 use mathlib.Core.Bool.{Bool, true, false, cond}
 use mathlib.Core.List.{List, [], ◌∷◌, ◌++◌}
 use lib.Dec.{eqb}
-use lib.ListN.{length, get_or, set, drop, length-set, length-drop, length-append}
-use lib.Seq.{get_or-set_same, get_or-set_other, get_or-drop, drop-set-lt, drop-drop}
+use borrow.Rule.Slice.PartMut.{put_mid}
+use Rattle.std.proofs.lemmas.List.{get_or-replicate, length-replicate}
+use Rattle.std.proofs.lemmas.Slice.{drop-append-drop}
+use lib.ListN.{length, get_or, set, drop, replicate, length-set, length-drop, length-append, get_or-append}
+use lib.Seq.{length-take-le, get_or-set_same, get_or-set_other, get_or-drop, get_or-take, drop-set-lt, drop-drop}
 use borrow.Author.Tests.{eq-eqb, ne_eqb}
 use Rattle.base.specs.Tests.{equal_or, below_or}
 use Rattle.readers.specs.Joined.{joined, joined_agree, joined-more, joined-none}
-use Rattle.readers.specs.Laid.{start_of, laid, laid_over}
+use Rattle.readers.specs.Laid.{start_of, laid, laid_over, part}
 use Rattle.readers.specs.LaidLaws.{start_zero, start_more, start_rises, start_least, length-laid, laid_is}
 use Rattle.readers.specs.Incidences.{Item, item, entries_of}
 use Rattle.base.specs.Each.{Each}
@@ -106,27 +109,42 @@ module _ (n b : ℕ) (P Q : ℕ → ℕ → Type 0) (before words : List ℕ) wh
   pub head_map : ((s x : ℕ) → s < n → P s x → Q s x) → Head n b P before words → Head n b Q before words
   head_map f h = record { first = h.first; each = λ s l. f s _ l (h.each s l); behind = h.behind; long = h.long }
 
-pub head_after : (n b : ℕ) (P Q : ℕ → ℕ → Type 0) (xs ys zs : List ℕ) → Head n b P xs ys → Head n b Q ys zs → Head n b Q xs zs
-head_after n b P Q xs ys zs h k = record { first = k.first; each = k.each; behind = k.behind ∙ h.behind; long = k.long ∙ h.long }
-
 pub head_self : (n b : ℕ) (P : ℕ → ℕ → Type 0) (xs ys : List ℕ) → Head n b P xs ys → Head n b P ys ys
 head_self n b P xs ys h = record { first = h.first; each = h.each; behind = refl; long = refl }
 
+-- the n words behind the first, as they are lent
+pub lists_long : (n : ℕ) (words : List ℕ) → n + 1 ≤ length words → length (part words 1 (n + 1)) ≡ n
+lists_long n words room =
+    let e : n + 1 - 1 ≡ n = omega arith in
+    rw e (length-take-le n (drop 1 words) (omega (arith, length-drop 1 words)))
+
+-- and the whole behind what was written there
+pub head_put : (n : ℕ) (P : ℕ → ℕ → Type 0) (words lists : List ℕ) → n + 1 ≤ length words → length lists ≡ n → get_or words 0 0 ≡ n + 1
+    → ((s : ℕ) → s < n → P s (get_or lists s 0)) → Head n (n + 1) P words (put_mid 1 (n + 1 - 1) words lists)
+head_put n P [] lists room long first each = absurd (omega arith)
+head_put n P (x ∷ xs) lists room long first each =
+    let e : n + 1 - 1 ≡ n = omega arith in
+    rw e
+    (record {
+      first = first;
+      each = λ s l. rw (add-one s, get_or-append lists (drop n xs) 0 s (omega arith)) (each s l);
+      behind = rw (add-one n) (drop-append-drop n xs lists n (omega arith) long);
+      long = omega (arith, length-append lists (drop n xs), length-drop n xs, long);
+    })
+
 -- ---- clearing
 
-pub clear_none : (n : ℕ) (words : List ℕ) → n + 1 ≤ length words → Head n (n + 1) (λ s x. s < 0 → x ≡ 0) words (set words 0 (n + 1))
-clear_none n words h =
-    record {
-      first = get_or-set_same words 0 (n + 1) 0 (omega arith);
-      each = λ s l m. absurd (omega arith);
-      behind = drop-set-lt (n + 1) words 0 (n + 1) (omega arith);
-      long = length-set words 0 (n + 1);
-    }
-
-pub clear_more : (n i : ℕ) (before words : List ℕ) → i < n → n + 1 ≤ length before → Head n (n + 1) (λ s x. s < i → x ≡ 0) before words
-    → Head n (n + 1) (λ s x. s < i + 1 → x ≡ 0) before (set words (i + 1) 0)
-clear_more n i before words l room h =
-    head_set n (n + 1) _ _ before words i 0 l (omega arith) room h (λ _. refl) (λ r x ne p m. p (omega arith))
+-- the first word says where entries begin, and the n behind it are 0
+pub cleared : (n : ℕ) (words zeros : List ℕ) → n + 1 ≤ length words → zeros ≡ replicate (length (part (set words 0 (n + 1)) 1 (n + 1))) 0
+    → Head n (n + 1) Zero words (put_mid 1 (n + 1 - 1) (set words 0 (n + 1)) zeros)
+cleared n words zeros room e =
+    let kept : length (set words 0 (n + 1)) ≡ length words = length-set words 0 (n + 1) in
+    let long : length (part (set words 0 (n + 1)) 1 (n + 1)) ≡ n = lists_long n (set words 0 (n + 1)) (omega arith) in
+    let zero : zeros ≡ replicate n 0 = e ∙ ap (λ m. replicate m 0) long in
+    let h =
+    head_put n Zero (set words 0 (n + 1)) zeros (omega arith) (ap length zero ∙ length-replicate n 0) (get_or-set_same words 0 (n + 1) 0 (omega arith))
+    (λ s l. rw zero (get_or-replicate n s 0 0 l)) in
+    record { first = h.first; each = h.each; behind = h.behind ∙ drop-set-lt (n + 1) words 0 (n + 1) (omega arith); long = h.long ∙ kept }
 
 -- ---- counting
 
@@ -183,25 +201,35 @@ total_least words n i l =
     let e : i + 1 + (n - (i + 1)) ≡ n = omega arith in
     omega (arith, total_more words i, total_rises words (i + 1) (n - (i + 1)), ap (total words) e)
 
-pub sum_start : (n : ℕ) (words : List ℕ) → Summed words n 0 (n + 1)
+-- the first i of the lists' words are summed, and the next starts at v; the others still count
+pub record Summing (words : List ℕ) (n i v : ℕ) (lists : List ℕ) : Type 0 where
+  pub next : Summed words n i v
+  pub summed : (s : ℕ) → s < i → Summed words n s (get_or lists s 0)
+  pub left : (s : ℕ) → i ≤ s → s < n → get_or lists s 0 ≡ get_or words (s + 1) 0
+
+pub sum_none : (n : ℕ) (words : List ℕ) → Summing words n 0 (n + 1) (part words 1 (n + 1))
 unfolding total
-sum_start n words = omega arith
+sum_none n words =
+    record {
+      next = omega arith;
+      summed = λ s l. absurd (omega arith);
+      left = λ s l m.
+          let e : 1 + s ≡ s + 1 = omega arith in get_or-take (n + 1 - 1) (drop 1 words) s 0 (omega arith) ∙ get_or-drop 1 words s 0 ∙ ap (λ j. get_or words j 0) e;
+    }
 
-pub sum_next : (n i : ℕ) (words : List ℕ) (x size : ℕ) → Summed words n i x → size ≡ get_or words (i + 1) 0 → Summed words n (i + 1) (x + size)
-sum_next n i words x size h e = omega (arith, total_more words i)
+module _ (n i v : ℕ) (words lists : List ℕ) (l : i < n) (h : Summing words n i v lists) where
+  -- the sum stays within that of all
+  pub sum_room : v + get_or lists i 0 ≤ n + 1 + total words n
+  sum_room = omega (arith, h.next, h.left i (omega arith) l, total_least words n i l)
 
--- the words of lists below i are summed, the others still count
-abbrev pub Summing : List ℕ → ℕ → ℕ → ℕ → ℕ → Type 0
-Summing old n i s x = (s < i → Summed old n s x) × (i ≤ s → x ≡ get_or old (s + 1) 0)
-
-pub sum_none : (n : ℕ) (old : List ℕ) → get_or old 0 0 ≡ n + 1 → Head n (n + 1) (Summing old n 0) old old
-sum_none n old h = record { first = h; each = λ s l. (λ m. absurd (omega arith), λ _. refl); behind = refl; long = refl }
-
-pub sum_more : (n i : ℕ) (old words : List ℕ) (v : ℕ) → i < n → n + 1 ≤ length old → Head n (n + 1) (Summing old n i) old words → Summed old n i v
-    → Head n (n + 1) (Summing old n (i + 1)) old (set words (i + 1) v)
-sum_more n i old words v l room h e =
-    head_set n (n + 1) _ _ old words i v l (omega arith) room h (λ _. e, λ m. absurd (omega arith))
-    (λ r x ne q. (λ m. q.0 (omega arith), λ m. q.1 (omega arith)))
+  pub sum_more : length lists ≡ n → Summing words n (i + 1) (v + get_or lists i 0) (set lists i v)
+  sum_more long =
+      record {
+        next = omega (arith, h.next, h.left i (omega arith) l, total_more words i);
+        summed = λ s m. ⊎_elim (λ e. rw (e, get_or-set_same lists i v 0 (omega arith)) h.next)
+            (λ ne. rw (get_or-set_other lists i s v 0 ne) (h.summed s (omega arith))) (equal_or s i);
+        left = λ s a b. get_or-set_other lists i s v 0 (λ e. omega arith) ∙ h.left s (omega arith) b;
+      }
 
 -- words that count are summed to where the lists begin
 pub total_start : (all : List Item) (n : ℕ) (words : List ℕ) → ((s : ℕ) → s < n → Counted all s (get_or words (s + 1) 0)) → (s : ℕ) → s ≤ n

@@ -1,16 +1,20 @@
 -- What a word says, and which items the node, the body or the root at hand makes.
 -- Assumes nothing.
-use Prim.Native.Nat.{ℕ, zero, suc, ◌+◌, ◌-◌, ◌*◌, ◌/◌, ◌%◌, ◌^◌, ◌<◌}
+use Prim.Native.Nat.{ℕ, zero, suc, ◌+◌, ◌-◌, ◌*◌, ◌/◌, ◌%◌, ◌^◌, ◌<◌, ◌≤◌}
 use native.Mathlib.Nat.{zero-add, add-zero}
 use native.Mathlib.Omega.{arith}
 use mathlib.Core.Path.{◌≡◌, refl, ap, ap₂, sym, ◌∙◌}
+use mathlib.Core.Logic.{◌⊎◌, inl, inr}
 use mathlib.Core.List.{List, [], ◌∷◌, map}
 use lib.Bits.{bit_xor, xor_block, xor_zero_r, xor_self, xor_add_and, and_le_l, and_le_r}
-use lib.ListN.{length, get_or}
+use lib.ListN.{length, get_or, take}
+use lib.Seq.{length-take-le, get_or-take}
 use Rattle.theory.specs.Node.{node_at, span, operands_of}
 use Rattle.theory.specs.declared.Node.{Node}
 use Rattle.theory.specs.declared.Node.TheVariants.{Atom, False, Implies, And, Or, Unknown}
 use Rattle.readers.specs.Incidences.{Item, item, atom_slot, operand_items, node_items, body_items, producer_items, root_items}
+use Rattle.readers.specs.Joined.{joined, joined_agree}
+use Rattle.readers.specs.Laid.{part}
 use Rattle.readers.specs.Reader.{node_reader, producer_reader, root_reader, by_tag, reading_of}
 use Rattle.readers.specs.ReaderLaws.{tag_of, index_of, read-parts}
 use Rattle.readers.specs.declared.Reading.{Reading}
@@ -33,39 +37,39 @@ module _ (n : ℕ) (nodes operands : List ℕ) (k : ℕ) (view : Node) (p : view
   unfolding node_items
   atom_items a q = known (Atom a) q
 
-  pub false_items : view ≡ False → here ≡ []
+  pub no_items : (view ≡ False) ⊎ (view ≡ Unknown) → here ≡ []
   unfolding node_items
-  false_items q = known False q
+  no_items = elim [ inl q ↦ known False q | inr q ↦ known Unknown q ]
 
   pub implies_items : (l r : ℕ) → view ≡ Implies l r → here ≡ item l (node_reader k) ∷ item r (node_reader k) ∷ []
   unfolding node_items operand_items operands_of
   implies_items l r q = known (Implies l r) q
 
-  pub and_items : (s c : ℕ) → view ≡ And s c → here ≡ map (λ o. item o (node_reader k)) (span operands s c)
-  unfolding node_items operand_items operands_of
-  and_items s c q = known (And s c) q
+  pub group_items : (s c : ℕ) → (view ≡ And s c) ⊎ (view ≡ Or s c) → here ≡ map (λ o. item o (node_reader k)) (part operands s (s + c))
+  unfolding node_items operand_items operands_of span
+  group_items s c q =
+      let e : s + c - s ≡ c = omega arith in
+      rw e (elim q [ inl a ↦ known (And s c) a | inr o ↦ known (Or s c) o ])
 
-  pub or_items : (s c : ℕ) → view ≡ Or s c → here ≡ map (λ o. item o (node_reader k)) (span operands s c)
-  unfolding node_items operand_items operands_of
-  or_items s c q = known (Or s c) q
-
-  pub unknown_items : view ≡ Unknown → here ≡ []
-  unfolding node_items
-  unknown_items q = known Unknown q
-
--- a body at hand
-module _ (producers : List ℕ) (i body : ℕ) (p : body ≡ get_or producers (4 * i + 1) 0) where
-  pub body_none : body ≡ 0 → producer_items producers i ≡ []
+-- a producer's second word at hand
+module _ (producers : List ℕ) (i word : ℕ) (p : word ≡ get_or producers (4 * i + 1) 0) where
+  pub body_none : (1 ≤ word → ⊥) → producer_items producers i ≡ []
   unfolding producer_items
-  body_none q = rw (← p, q)
+  body_none none = let z : word ≡ 0 = omega arith in rw (← p, z)
 
-  pub body_one : (e : ℕ) → e ≡ producer_reader i → (body ≡ 0 → ⊥) → producer_items producers i ≡ item (body - 1) e ∷ []
+  pub body_one : (b e : ℕ) → (1 ≤ word) × (b ≡ word - 1) → e ≡ producer_reader i → producer_items producers i ≡ item b e ∷ []
   unfolding producer_items
-  body_one e q some = let more : body ≡ suc (body - 1) = omega arith in ap (body_items i) (sym p ∙ more) ∙ rw q
+  body_one b e some q = let more : word ≡ suc b = omega (arith, some.0, some.1) in ap (body_items i) (sym p ∙ more) ∙ rw q
 
 pub root_one : (roots : List ℕ) (i o e : ℕ) → o ≡ get_or roots i 0 → e ≡ root_reader i → root_items roots i ≡ item o e ∷ []
 unfolding root_items
 root_one roots i o e p q = rw (p, q)
+
+pub roots_part : (roots : List ℕ) (n : ℕ) → n ≤ length roots → joined (root_items (take n roots)) 0 (length (take n roots)) ≡ joined (root_items roots) 0 n
+unfolding root_items
+roots_part roots n l =
+    ap (joined (root_items (take n roots)) 0) (length-take-le n roots l)
+    ∙ joined_agree (root_items (take n roots)) (root_items roots) 0 n (λ k a b. ap (λ r. item r (root_reader k) ∷ []) (get_or-take n roots k 0 (omega arith)))
 
 -- a word with the tag at hand
 pub read_as : (x tag : ℕ) (r : Reading) → x / 2 ^ 62 ≡ tag → r ≡ by_tag tag (x % 2 ^ 62) → r ≡ reading_of x

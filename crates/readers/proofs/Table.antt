@@ -40,12 +40,18 @@ module _ (t : Counts) (nodes operands roots producers : List ℕ) (p : ℕ) (pla
   all = incidences t nodes operands roots producers p
 
   -- the words that count can count all incidences
-  pub counts_fit : (words : List ℕ) → slots t + 1 ≤ length words → Head (slots t) (slots t + 1) Zero words words
-      → CountFits all words × Head (slots t) (slots t + 1) (Counted all) words (counted_all all words)
-  counts_fit words room h =
-      count_pass (slots t) all all words words (all-below t nodes operands roots producers p planned) room
-      (omega (arith, incidences_few t nodes operands roots producers p planned, planned.limited.nodes, planned.limited.operands, planned.limited.roots))
-      (count_none (slots t) all words words h)
+  module _ (before words : List ℕ) (room : slots t + 1 ≤ length before) (h : Head (slots t) (slots t + 1) Zero before words) where
+    counting : CountFits all words × Head (slots t) (slots t + 1) (Counted all) before (counted_all all words)
+    counting =
+        count_pass (slots t) all all before words (all-below t nodes operands roots producers p planned) room
+        (omega (arith, incidences_few t nodes operands roots producers p planned, planned.limited.nodes, planned.limited.operands, planned.limited.roots))
+        (count_none (slots t) all before words h)
+
+    pub counts_fit : CountFits all words
+    counts_fit = counting.0
+
+    pub counts_are : (out : List ℕ) → out ≡ counted_all all words → Head (slots t) (slots t + 1) (Counted all) before out
+    counts_are out e = rw e counting.1
 
   -- each incidence has a place, and with all placed the table is laid
   pub places_fit : (words : List ℕ) → reader_words t ≤ length words → Head (slots t) (slots t + 1) (Started all (slots t)) words words
@@ -67,16 +73,16 @@ module _ (t : Counts) (nodes operands roots producers : List ℕ) (p : ℕ) (pla
       )
 
   -- the passes leave the table built
-  pub passes_build : (xs cleared counted summed words : List ℕ) → Head (slots t) (slots t + 1) Zero xs cleared
-      → Head (slots t) (slots t + 1) (Counted all) cleared counted → Head (slots t) (slots t + 1) (Summed counted (slots t)) counted summed
-      → words ≡ laid_over (λ s. entries_of s all) (slots t) summed → words ≡ built t nodes operands roots producers p xs
+  pub passes_build : (xs counted summed words : List ℕ) → Head (slots t) (slots t + 1) (Counted all) xs counted
+      → Head (slots t) (slots t + 1) (Summed counted (slots t)) counted summed → words ≡ laid_over (λ s. entries_of s all) (slots t) summed
+      → words ≡ built t nodes operands roots producers p xs
   unfolding laid_over built
-  passes_build xs cleared counted summed words a b c e =
+  passes_build xs counted summed words b c e =
       e ∙ rw (lists_laid t nodes operands roots producers p planned)
       (ap (λ r. laid (λ s. entries_of s all) (slots t) ++ r)
       (drop-later (slots t + 1) (length (laid (λ s. entries_of s all) (slots t))) summed xs
       (omega (arith, length-laid (λ s. entries_of s all) (slots t), start_least (λ s. entries_of s all) (slots t) (slots t)))
-      (c.behind ∙ b.behind ∙ a.behind)))
+      (c.behind ∙ b.behind)))
 
 -- ---- once built
 

@@ -33,15 +33,22 @@ pub record Placeable (s : ℕ) (words : List ℕ) : Type 0 where
 unfoldable pub placed : ℕ → ℕ → List ℕ → List ℕ
 placed s e words = set (set words (get_or words (s + 1) 0) e) (s + 1) (get_or words (s + 1) 0 + 1)
 
--- the two passes over incidences
+-- a pass over incidences, by what it does with an entry of a list
+abbrev pub passed_all : (ℕ → ℕ → List ℕ → List ℕ) → List Item → List ℕ → List ℕ
+passed_all after = passed (λ x. after x.slot x.entry)
+
+abbrev pub FitsAll : (ℕ → List ℕ → Type 0) → (ℕ → ℕ → List ℕ → List ℕ) → List Item → List ℕ → Type 0
+FitsAll room after = Fits (λ x. room x.slot) (λ x. after x.slot x.entry)
+
+-- the two passes
 abbrev pub counted_all : List Item → List ℕ → List ℕ
-counted_all = passed (λ x. counted x.slot)
+counted_all = passed_all (λ s e. counted s)
 
 abbrev pub CountFits : List Item → List ℕ → Type 0
-CountFits = Fits (λ x. Countable x.slot) (λ x. counted x.slot)
+CountFits = FitsAll Countable (λ s e. counted s)
 
 abbrev pub placed_all : List Item → List ℕ → List ℕ
-placed_all = passed (λ x. placed x.slot x.entry)
+placed_all = passed_all placed
 
 abbrev pub PlaceFits : List Item → List ℕ → Type 0
-PlaceFits = Fits (λ x. Placeable x.slot) (λ x. placed x.slot x.entry)
+PlaceFits = FitsAll Placeable placed

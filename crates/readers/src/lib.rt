@@ -1,17 +1,16 @@
 // The reader lists: who reads each node's truth. A port of tight/readers.rs.
 #![tactic(auto)]
 
-ghost use Rattle.std.specs.Prelude.{◌≡◌, ℕ, ◌+◌, ◌*◌, ◌^◌, ◌<◌, ◌≤◌, ◌&&◌, leb, length, get_or};
+ghost use Rattle.std.specs.Prelude.{◌≡◌, ℕ, ◌+◌, ◌*◌, ◌^◌, ◌<◌, ◌≤◌, ◌&&◌, List, leb, length, get_or};
 ghost use Rattle.readers.specs.Reader.{node_reader, producer_reader, root_reader, reading_of};
 ghost use Rattle.readers.specs.declared.Reading.TheVariants.{Producer, Root};
-ghost use Rattle.readers.specs.Incidences.{atom_slot, items_at, producer_items, root_items, incidences, entries_of};
+ghost use Rattle.readers.specs.Incidences.{atom_slot, items_at, producer_items, root_items, incidences};
 ghost use Rattle.readers.specs.Joined.{joined};
-ghost use Rattle.readers.specs.Pass.{passed, Fits, Countable, counted, counted_all, CountFits, Placeable, placed, placed_all, PlaceFits};
-ghost use Rattle.readers.specs.Laid.{laid_over, list_at, InOrder, in_order};
+ghost use Rattle.readers.specs.Pass.{passed, Fits, passed_all, FitsAll, Countable, counted, Placeable, placed};
+ghost use Rattle.readers.specs.Laid.{list_at, InOrder, in_order};
 ghost use Rattle.readers.specs.Planned.{Planned};
-ghost use Rattle.readers.specs.Placement.{Head, total, Zero, Counted, Summed, Started};
+ghost use Rattle.readers.specs.Placement.{Head, total, Zero, Summed};
 ghost use Rattle.readers.specs.ReaderTable.{slots, reader_words, built};
-ghost use Rattle.theory.specs.Node.{span};
 ghost use Rattle.theory.specs.Limits.{Limited};
 ghost use Rattle.theory.specs.WellFormed.{NodeTables};
 
@@ -32,6 +31,12 @@ pub enum Reading {
 impl Reader {
     pub const SHIFT: u32 = 62;
 
+    // A producer's tag, where it stands in the word.
+    const PRODUCER: u64 = 2 << Reader::SHIFT;
+
+    // A root position's.
+    const ROOT: u64 = 3 << Reader::SHIFT;
+
     pub fn node(i: usize) -> Reader
         requires { i < 2 ^ 62 }
         ensures { result.0 ≡ node_reader i }
@@ -43,28 +48,28 @@ impl Reader {
         requires { i < 2 ^ 62 }
         ensures { result.0 ≡ producer_reader i }
     {
-        Reader((2u64 << Reader::SHIFT) | (i as u64))
+        Reader(Reader::PRODUCER | i as u64)
     }
 
     pub fn root(i: usize) -> Reader
         requires { i < 2 ^ 62 }
         ensures { result.0 ≡ root_reader i }
     {
-        Reader((3u64 << Reader::SHIFT) | (i as u64))
+        Reader(Reader::ROOT | i as u64)
     }
 
     // The index of a producer's word; any other word gives 2^62 at least, so that one comparison tells both.
     pub fn producer_index(self) -> u64
         ensures { (result < 2 ^ 62 → reading_of self.0 ≡ Producer result) × ((i : ℕ) → reading_of self.0 ≡ Producer i → result ≡ i) }
     {
-        self.0 ^ (2u64 << Reader::SHIFT)
+        self.0 ^ Reader::PRODUCER
     }
 
     // The same of a root position's.
     pub fn root_index(self) -> u64
         ensures { (result < 2 ^ 62 → reading_of self.0 ≡ Root result) × ((i : ℕ) → reading_of self.0 ≡ Root i → result ≡ i) }
     {
-        self.0 ^ (3u64 << Reader::SHIFT)
+        self.0 ^ Reader::ROOT
     }
 
     // What any word says.
@@ -72,7 +77,7 @@ impl Reader {
         ensures { result ≡ reading_of self.0 }
     {
         let word = self.0;
-        let index = (word % (1u64 << Reader::SHIFT)) as usize;
+        let index = (word % (1 << Reader::SHIFT)) as usize;
         match word >> Reader::SHIFT {
             0 => Reading::Node(index),
             2 => Reading::Producer(index),
@@ -88,93 +93,110 @@ fn clear(table: &mut [u64], n: usize)
     ensures { Head n (n + 1) Zero table.old table.new }
 {
     table[0] = (n + 1) as u64;
-    let mut i = 0;
-    while i < n {
-        table[i + 1] = 0;
-        i += 1;
+    table[1..=n].fill(0);
+}
+
+// What one pass over the incidences does with each entry of a list.
+trait Pass {
+    // When a list has room for one more.
+    ghost room: { ℕ → List ℕ → Type 0 };
+
+    // The table behind it.
+    ghost after: { ℕ → ℕ → List ℕ → List ℕ };
+
+    fn enter(table: &mut [u64], slot: usize, entry: u64)
+        requires { room slot table.old }
+        ensures { table.new ≡ after slot entry table.old };
+}
+
+// The first pass: each list's word counts its entries.
+struct Counting;
+
+impl Pass for Counting {
+    ghost room = { Countable };
+
+    ghost after = { λ s e. counted s };
+
+    fn enter(table: &mut [u64], slot: usize, _entry: u64) {
+        table[slot + 1] += 1;
     }
 }
 
-// One more entry of a list is counted.
-fn count_one(table: &mut [u64], slot: usize)
-    requires { Countable slot table.old }
-    ensures { table.new ≡ counted slot table.old }
-{
-    table[slot + 1] = table[slot + 1] + 1;
+// The second: each entry goes where its list goes on.
+struct Placing;
+
+impl Pass for Placing {
+    ghost room = { Placeable };
+
+    ghost after = { placed };
+
+    fn enter(table: &mut [u64], slot: usize, entry: u64) {
+        let at = words::word64(table, slot + 1);
+        table[at] = entry;
+        table[slot + 1] = (at + 1) as u64;
+    }
 }
 
-// A span's entries, one for each operand.
-fn count_operands(operands: &[u32], start: usize, count: usize, table: &mut [u64])
-    requires { (start + count ≤ length operands.now) × Fits Countable counted (span operands.now start count) table.old }
-    ensures { table.new ≡ passed counted (span operands.now start count) table.old }
+// A span's entries: node k, once for each operand.
+fn pass_span<P: Pass>(span: &[u32], k: usize, table: &mut [u64])
+    requires { (k < 2 ^ 62) × Fits P.room (λ o. P.after o (node_reader k)) span.now table.old }
+    ensures { table.new ≡ passed (λ o. P.after o (node_reader k)) span.now table.old }
 {
-    let end = start + count;
-    let mut i = start;
-    while i < end {
-        count_one(table, words::word(operands, i));
-        i += 1;
+    for o in span {
+        P::enter(table, *o as usize, Reader::node(k).0);
     }
 }
 
 // The entries that node k makes.
-fn count_node(counts: Counts, nodes: &[u32], operands: &[u32], k: usize, table: &mut [u64])
-    requires { (k < counts.nodes) × Limited counts × NodeTables counts nodes.now operands.now × CountFits (items_at counts nodes.now operands.now k) table.old }
-    ensures { table.new ≡ counted_all (items_at counts nodes.now operands.now k) table.old }
+fn pass_node<P: Pass>(counts: Counts, nodes: &[u32], operands: &[u32], k: usize, table: &mut [u64])
+    requires { (k < counts.nodes) × Limited counts × NodeTables counts nodes.now operands.now × FitsAll P.room P.after (items_at counts nodes.now operands.now k) table.old }
+    ensures { table.new ≡ passed_all P.after (items_at counts nodes.now operands.now k) table.old }
 {
     match theory::view(nodes, k) {
-        Node::Atom(a) => count_one(table, counts.nodes + 1 + a),
-        Node::False => {}
+        Node::Atom(a) => P::enter(table, counts.nodes + 1 + a, k as u64),
         Node::Implies(left, right) => {
-            count_one(table, left);
-            count_one(table, right);
+            P::enter(table, left, Reader::node(k).0);
+            P::enter(table, right, Reader::node(k).0);
         }
-        Node::And(s, c) => count_operands(operands, s, c, table),
-        Node::Or(s, c) => count_operands(operands, s, c, table),
-        Node::Unknown => {}
+        Node::And(s, c) | Node::Or(s, c) => pass_span::<P>(&operands[s..s + c], k, table),
+        Node::False | Node::Unknown => {}
     }
 }
 
 // The entries that nodes make.
-fn count_nodes(counts: Counts, nodes: &[u32], operands: &[u32], table: &mut [u64])
-    requires { Limited counts × NodeTables counts nodes.now operands.now × CountFits (joined (items_at counts nodes.now operands.now) 0 counts.nodes) table.old }
-    ensures { table.new ≡ counted_all (joined (items_at counts nodes.now operands.now) 0 counts.nodes) table.old }
+fn pass_nodes<P: Pass>(counts: Counts, nodes: &[u32], operands: &[u32], table: &mut [u64])
+    requires { Limited counts × NodeTables counts nodes.now operands.now × FitsAll P.room P.after (joined (items_at counts nodes.now operands.now) 0 counts.nodes) table.old }
+    ensures { table.new ≡ passed_all P.after (joined (items_at counts nodes.now operands.now) 0 counts.nodes) table.old }
 {
-    let mut k = 0;
-    while k < counts.nodes {
-        count_node(counts, nodes, operands, k, table);
-        k += 1;
+    for k in 0..counts.nodes {
+        pass_node::<P>(counts, nodes, operands, k, table);
     }
 }
 
 // The entries that p producers make.
-fn count_producers(producers: &[u32], p: usize, table: &mut [u64])
-    requires { (4 * p ≤ length producers.now) × CountFits (joined (producer_items producers.now) 0 p) table.old }
-    ensures { table.new ≡ counted_all (joined (producer_items producers.now) 0 p) table.old }
+fn pass_producers<P: Pass>(producers: &[u32], p: usize, table: &mut [u64])
+    requires { (4 * p ≤ length producers.now) × FitsAll P.room P.after (joined (producer_items producers.now) 0 p) table.old }
+    ensures { table.new ≡ passed_all P.after (joined (producer_items producers.now) 0 p) table.old }
 {
-    let mut i = 0;
-    while i < p {
-        let body = words::word(producers, 4 * i + 1);
-        if body != 0 {
-            count_one(table, body - 1);
+    for i in 0..p {
+        if let Some(body) = words::word(producers, 4 * i + 1).checked_sub(1) {
+            P::enter(table, body, Reader::producer(i).0);
         }
-        i += 1;
     }
 }
 
-// The entries that n root positions make.
-fn count_roots(roots: &[u32], n: usize, table: &mut [u64])
-    requires { (n ≤ length roots.now) × CountFits (joined (root_items roots.now) 0 n) table.old }
-    ensures { table.new ≡ counted_all (joined (root_items roots.now) 0 n) table.old }
+// The entries that root positions make.
+fn pass_roots<P: Pass>(roots: &[u32], table: &mut [u64])
+    requires { FitsAll P.room P.after (joined (root_items roots.now) 0 (length roots.now)) table.old }
+    ensures { table.new ≡ passed_all P.after (joined (root_items roots.now) 0 (length roots.now)) table.old }
 {
-    let mut i = 0;
-    while i < n {
-        count_one(table, words::word(roots, i));
-        i += 1;
+    for (i, root) in roots.iter().enumerate() {
+        P::enter(table, *root as usize, Reader::root(i).0);
     }
 }
 
-// Each list's word counts its entries: the first pass over the incidences.
-fn count(
+// The entries that all of them make, in the order of discovery.
+fn pass_all<P: Pass>(
     counts: Counts,
     nodes: &[u32],
     operands: &[u32],
@@ -183,12 +205,12 @@ fn count(
     p: usize,
     table: &mut [u64],
 )
-    requires { Planned counts nodes.now operands.now roots.now producers.now p × (slots counts + 1 ≤ length table.old) × Head (slots counts) (slots counts + 1) Zero table.old table.old }
-    ensures { Head (slots counts) (slots counts + 1) (Counted (incidences counts nodes.now operands.now roots.now producers.now p)) table.old table.new }
+    requires { Planned counts nodes.now operands.now roots.now producers.now p × FitsAll P.room P.after (incidences counts nodes.now operands.now roots.now producers.now p) table.old }
+    ensures { table.new ≡ passed_all P.after (incidences counts nodes.now operands.now roots.now producers.now p) table.old }
 {
-    count_nodes(counts, nodes, operands, table);
-    count_producers(producers, p, table);
-    count_roots(roots, counts.roots, table);
+    pass_nodes::<P>(counts, nodes, operands, table);
+    pass_producers::<P>(producers, p, table);
+    pass_roots::<P>(&roots[..counts.roots], table);
 }
 
 // Counts become starts: a list's word is the sum of those before it, from where entries begin.
@@ -197,111 +219,11 @@ fn sum(table: &mut [u64], n: usize)
     ensures { Head n (n + 1) (Summed table.old n) table.old table.new }
 {
     let mut start = n + 1;
-    let mut i = 0;
-    while i < n {
-        let size = words::word64(table, i + 1);
-        table[i + 1] = start as u64;
-        start = start + size;
-        i += 1;
+    for word in &mut table[1..=n] {
+        let size = *word as usize;
+        *word = start as u64;
+        start += size;
     }
-}
-
-// One more entry stands where its list goes on.
-fn place_one(table: &mut [u64], slot: usize, entry: u64)
-    requires { Placeable slot table.old }
-    ensures { table.new ≡ placed slot entry table.old }
-{
-    let at = words::word64(table, slot + 1);
-    table[at] = entry;
-    table[slot + 1] = (at + 1) as u64;
-}
-
-// A span's entries: node k, once for each operand.
-fn place_operands(operands: &[u32], start: usize, count: usize, k: usize, table: &mut [u64])
-    requires { (start + count ≤ length operands.now) × (k < 2 ^ 62) × Fits Placeable (λ o. placed o (node_reader k)) (span operands.now start count) table.old }
-    ensures { table.new ≡ passed (λ o. placed o (node_reader k)) (span operands.now start count) table.old }
-{
-    let end = start + count;
-    let mut i = start;
-    while i < end {
-        place_one(table, words::word(operands, i), Reader::node(k).0);
-        i += 1;
-    }
-}
-
-// The entries that node k makes.
-fn place_node(counts: Counts, nodes: &[u32], operands: &[u32], k: usize, table: &mut [u64])
-    requires { (k < counts.nodes) × Limited counts × NodeTables counts nodes.now operands.now × PlaceFits (items_at counts nodes.now operands.now k) table.old }
-    ensures { table.new ≡ placed_all (items_at counts nodes.now operands.now k) table.old }
-{
-    match theory::view(nodes, k) {
-        Node::Atom(a) => place_one(table, counts.nodes + 1 + a, k as u64),
-        Node::False => {}
-        Node::Implies(left, right) => {
-            place_one(table, left, Reader::node(k).0);
-            place_one(table, right, Reader::node(k).0);
-        }
-        Node::And(s, c) => place_operands(operands, s, c, k, table),
-        Node::Or(s, c) => place_operands(operands, s, c, k, table),
-        Node::Unknown => {}
-    }
-}
-
-// The entries that nodes make.
-fn place_nodes(counts: Counts, nodes: &[u32], operands: &[u32], table: &mut [u64])
-    requires { Limited counts × NodeTables counts nodes.now operands.now × PlaceFits (joined (items_at counts nodes.now operands.now) 0 counts.nodes) table.old }
-    ensures { table.new ≡ placed_all (joined (items_at counts nodes.now operands.now) 0 counts.nodes) table.old }
-{
-    let mut k = 0;
-    while k < counts.nodes {
-        place_node(counts, nodes, operands, k, table);
-        k += 1;
-    }
-}
-
-// The entries that p producers make.
-fn place_producers(producers: &[u32], p: usize, table: &mut [u64])
-    requires { (4 * p ≤ length producers.now) × PlaceFits (joined (producer_items producers.now) 0 p) table.old }
-    ensures { table.new ≡ placed_all (joined (producer_items producers.now) 0 p) table.old }
-{
-    let mut i = 0;
-    while i < p {
-        let body = words::word(producers, 4 * i + 1);
-        if body != 0 {
-            place_one(table, body - 1, Reader::producer(i).0);
-        }
-        i += 1;
-    }
-}
-
-// The entries that n root positions make.
-fn place_roots(roots: &[u32], n: usize, table: &mut [u64])
-    requires { (n ≤ length roots.now) × PlaceFits (joined (root_items roots.now) 0 n) table.old }
-    ensures { table.new ≡ placed_all (joined (root_items roots.now) 0 n) table.old }
-{
-    let mut i = 0;
-    while i < n {
-        place_one(table, words::word(roots, i), Reader::root(i).0);
-        i += 1;
-    }
-}
-
-// Each entry goes where its list goes on: the second pass over the incidences.
-fn place(
-    counts: Counts,
-    nodes: &[u32],
-    operands: &[u32],
-    roots: &[u32],
-    producers: &[u32],
-    p: usize,
-    table: &mut [u64],
-)
-    requires { Planned counts nodes.now operands.now roots.now producers.now p × (reader_words counts ≤ length table.old) × Head (slots counts) (slots counts + 1) (Started (incidences counts nodes.now operands.now roots.now producers.now p) (slots counts)) table.old table.old }
-    ensures { table.new ≡ laid_over (λ s. entries_of s (incidences counts nodes.now operands.now roots.now producers.now p)) (slots counts) table.old }
-{
-    place_nodes(counts, nodes, operands, table);
-    place_producers(producers, p, table);
-    place_roots(roots, counts.roots, table);
 }
 
 // The reader table into the front of table, in two passes over the incidences.
@@ -319,9 +241,9 @@ pub fn build(
 {
     let n = counts.nodes + counts.atoms + 1;
     clear(table, n);
-    count(counts, nodes, operands, roots, producers, p, table);
+    pass_all::<Counting>(counts, nodes, operands, roots, producers, p, table);
     sum(table, n);
-    place(counts, nodes, operands, roots, producers, p, table);
+    pass_all::<Placing>(counts, nodes, operands, roots, producers, p, table);
 }
 
 // How many words the table of these counts has.
@@ -336,13 +258,7 @@ pub fn table_words(counts: Counts) -> usize
 fn ordered(start: usize, end: usize, listed: usize) -> bool
     ensures { result ≡ (leb start end && leb end listed) }
 {
-    if start > end {
-        return false;
-    }
-    if end > listed {
-        return false;
-    }
-    true
+    start <= end && end <= listed
 }
 
 // Whether list s of any table, which starts at `start`, has its two starts in order and within the first `listed` words.

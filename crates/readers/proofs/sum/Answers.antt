@@ -1,30 +1,21 @@
-use borrow.Author.Rules.{rules}
 use native.Mathlib.Omega.{arith}
-use native.Mathlib.Nat.{le_refl}
-use mathlib.Core.Path.{◌∙◌}
-use Rattle.readers.proofs.Placement.{sum_start, sum_none, sum_next, sum_more, total_least, head_map}
+use Rattle.readers.proofs.Placement.{lists_long, head_put, sum_none, sum_room, sum_more}
 use Rattle.readers.proofs.sum.Goals as goal
 
-pub loop-i-init : goal.loop-i-init
-loop-i-init c = (search rules, sum_start _ _, sum_none _ _ c.requires.2)
+pub loop-word-init : goal.loop-word-init
+loop-word-init c = sum_none _ _
 
-pub word64-size-requires : goal.word64-size-requires
-word64-size-requires c = omega (arith, c.loop-i.invariant.2.long, c.requires.0)
+pub overflow_add-start-in-loop-word : goal.overflow_add-start-in-loop-word
+overflow_add-start-in-loop-word c =
+    let long = lists_long c.args.n c.args.table.now c.requires.0 in
+    omega (arith, sum_room _ _ _ c.args.table.now _ (omega arith) c.loop-word.invariant, c.requires.1)
 
-pub offset_bounds-table-i : goal.offset_bounds-table-i
-offset_bounds-table-i c = omega (arith, c.loop-i.invariant.2.long, c.requires.0, c.well_formed)
-
-pub bounds-table-i : goal.bounds-table-i
-bounds-table-i c = omega (arith, c.loop-i.invariant.2.long, c.requires.0)
-
-pub overflow_add-start-in-loop-i : goal.overflow_add-start-in-loop-i
-overflow_add-start-in-loop-i c = omega (arith, c.word64-size.ensures, (c.loop-i.invariant.2.each _ c.loop-i-test.true).1 (le_refl _), total_least c.args.table.now c.args.n c.loop-i.i c.loop-i-test.true, c.loop-i.invariant.1, c.requires.1)
-
-pub loop-i-preserved : goal.loop-i-preserved
-loop-i-preserved c = (search rules, sum_next _ _ _ _ _ c.loop-i.invariant.1 (c.word64-size.ensures ∙ (c.loop-i.invariant.2.each _ c.loop-i-test.true).1 (le_refl _)), sum_more _ _ _ _ _ c.loop-i-test.true c.requires.0 c.loop-i.invariant.2 c.loop-i.invariant.1)
-
-pub shape_of-table : goal.shape_of-table
-shape_of-table c = c.loop-i.invariant.2.long
+pub loop-word-preserved : goal.loop-word-preserved
+loop-word-preserved c =
+    let long = lists_long c.args.n c.args.table.now c.requires.0 in
+    sum_more _ _ _ _ _ (omega arith) c.loop-word.invariant (omega arith)
 
 pub returns : goal.returns
-returns c = head_map _ _ _ _ _ _ (λ s x l q. q.0 (omega arith)) c.loop-i.invariant.2
+returns c =
+    let long = lists_long c.args.n c.args.table.now c.requires.0 in
+    head_put _ _ _ _ c.requires.0 (omega arith) c.requires.2 (λ s l. c.loop-word.invariant.summed s (omega arith))

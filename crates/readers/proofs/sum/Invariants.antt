@@ -1,10 +1,5 @@
-use Prim.Native.Nat.{◌+◌, ◌-◌, ◌≤◌}
-use Rattle.readers.specs.Placement.{Head, Summed}
 use Rattle.readers.proofs.Placement.{Summing}
 use Rattle.readers.proofs.sum.Given as goal
 
-abbrev pub invariant-loop-i : goal.invariant-loop-i
-invariant-loop-i l = (l.i ≤ l.n) × Summed l.initial.table l.n l.i l.start × Head l.n (l.n + 1) (Summing l.initial.table l.n l.i) l.initial.table l.table
-
-abbrev pub decreases-loop-i : goal.decreases-loop-i
-decreases-loop-i l = l.n - l.i
+abbrev pub invariant-loop-word : goal.invariant-loop-word
+invariant-loop-word l = Summing l.fn.table l.n l.word-index l.start l.word-items

@@ -1,13 +1,10 @@
 -- What is left of a pass: taken item by item, or the items of one number after the other.
 -- Assumes nothing.
-use Prim.Native.Nat.{ℕ, suc, ◌+◌, ◌-◌, ◌<◌, ◌≤◌}
-use native.Mathlib.Nat.{sub-zero}
-use native.Mathlib.Omega.{arith}
+use Prim.Native.Nat.{ℕ, ◌+◌, ◌-◌, ◌<◌, ◌≤◌}
 use mathlib.Core.Path.{◌≡◌, refl, ◌∙◌}
 use mathlib.Core.List.{List, [], ◌∷◌, ◌++◌, map}
-use lib.ListN.{length, get_or}
-use Rattle.theory.specs.Node.{span}
-use Rattle.theory.specs.Spans.{span_more}
+use lib.ListN.{length, get_or, drop, drop_of_length-le}
+use Rattle.std.proofs.lemmas.List.{drop_more}
 use Rattle.theory.specs.declared.Counts.{Counts}
 use Rattle.readers.specs.Joined.{joined, joined_first, joined_past}
 use Rattle.readers.specs.Incidences.{Item, items_at, producer_items, root_items, incidences}
@@ -67,45 +64,36 @@ module _ {A : Type 0} (Room : A → List ℕ → Type 0) (step : A → List ℕ 
   unfolding Fits
   room_one xs words x e h = (rw e at h).0
 
-  pub room_two : (xs : List A) (words : List ℕ) (x y : A) → xs ≡ x ∷ y ∷ [] → Fits Room step xs words → Room x words × Room y (step x words)
-  unfolding Fits
-  room_two xs words x y e h = ((rw e at h).0, (rw e at h).1.0)
+  module _ (xs : List A) (words : List ℕ) (x y : A) (e : xs ≡ x ∷ y ∷ []) (h : Fits Room step xs words) where
+    pub room_first : Room x words
+    unfolding Fits
+    room_first = (rw e at h).0
+
+    pub room_second : (out : List ℕ) → out ≡ step x words → Room y out
+    unfolding Fits
+    room_second out q = rw q (rw e at h).1.0
 
   -- the lists of the numbers from i up to n are left
-  module _ (f : ℕ → List A) where
-    pub numbers_all : (n : ℕ) (words : List ℕ) → Fits Room step (joined f 0 n) words → Left (joined f 0 (n - 0)) words (passed step (joined f 0 n) words)
-    numbers_all n words h = rw (sub-zero n) (left_all (joined f 0 n) words h)
+  module _ (f : ℕ → List A) (i n : ℕ) (words end : List ℕ) (h : Left (joined f i (n - i)) words end) where
+    turn : i < n → Fits Room step (f i) words × Left (joined f (i + 1) (n - (i + 1))) (passed step (f i) words) end
+    turn l = left_part (f i) (joined f (i + 1) (n - (i + 1))) words end (rw (joined_first f i n l) at h)
 
-    module _ (i n : ℕ) (words end : List ℕ) (h : Left (joined f i (n - i)) words end) where
-      turn : i < n → Fits Room step (f i) words × Left (joined f (i + 1) (n - (i + 1))) (passed step (f i) words) end
-      turn l = left_part (f i) (joined f (i + 1) (n - (i + 1))) words end (rw (joined_first f i n l) at h)
+    pub number_fits : i < n → Fits Room step (f i) words
+    number_fits l = (turn l).0
 
-      pub number_fits : i < n → Fits Room step (f i) words
-      number_fits l = (turn l).0
+    pub number_next : i < n → (out : List ℕ) → out ≡ passed step (f i) words → Left (joined f (i + 1) (n - (i + 1))) out end
+    number_next l out e = rw e (turn l).1
 
-      pub number_next : i < n → (out : List ℕ) → out ≡ passed step (f i) words → Left (joined f (i + 1) (n - (i + 1))) out end
-      number_next l out e = rw e (turn l).1
+    pub numbers_done : n ≤ i → words ≡ end
+    numbers_done l = left_none words end (rw (joined_past f i n l) at h)
 
-      pub numbers_done : n ≤ i → words ≡ end
-      numbers_done l = left_none words end (rw (joined_past f i n l) at h)
+-- the elements of a list from i on are left
+module _ (Room : ℕ → List ℕ → Type 0) (step : ℕ → List ℕ → List ℕ) (xs : List ℕ) (i : ℕ) (words end : List ℕ) (h : Left Room step (drop i xs) words end) where
+  pub element_turn : i < length xs → Room (get_or xs i 0) words × Left Room step (drop (i + 1) xs) (step (get_or xs i 0) words) end
+  element_turn l = left_first Room step (get_or xs i 0) (drop (i + 1) xs) words end (rw (drop_more xs i 0 l) at h)
 
--- the entries of the operand table from i up to e are left
-module _ (Room : ℕ → List ℕ → Type 0) (step : ℕ → List ℕ → List ℕ) (operands : List ℕ) where
-  pub span_all : (s c : ℕ) (words : List ℕ) → Fits Room step (span operands s c) words → Left Room step (span operands s (s + c - s)) words (passed step (span operands s c) words)
-  span_all s c words h = let e : s + c - s ≡ c = omega arith in rw e (left_all Room step (span operands s c) words h)
-
-  module _ (i e : ℕ) (words end : List ℕ) (h : Left Room step (span operands i (e - i)) words end) where
-    pub span_turn : i < e → e ≤ length operands → Room (get_or operands i 0) words × Left Room step (span operands (i + 1) (e - (i + 1))) (step (get_or operands i 0) words) end
-    span_turn l m =
-        let more : e - i ≡ suc (e - (i + 1)) = omega arith in
-        left_first Room step (get_or operands i 0) (span operands (i + 1) (e - (i + 1))) words end
-        (rw (more, span_more operands i (e - (i + 1)) (omega arith)) at h)
-
-    pub span_done : e ≤ i → words ≡ end
-    unfolding span
-    span_done l =
-        let none : e - i ≡ 0 = omega arith in
-        left_none Room step words end (rw none at h)
+  pub elements_done : length xs ≤ i → words ≡ end
+  elements_done l = left_none Room step words end (rw (drop_of_length-le xs l) at h)
 
 -- a pass over all incidences: nodes, then producers, then root positions
 module _ (Room : Item → List ℕ → Type 0) (step : Item → List ℕ → List ℕ) (t : Counts) (nodes operands roots producers : List ℕ) (p : ℕ) where
@@ -118,17 +106,20 @@ module _ (Room : Item → List ℕ → Type 0) (step : Item → List ℕ → Lis
   abbrev of_roots : List Item
   of_roots = joined (root_items roots) 0 t.roots
 
-  module _ (words end : List ℕ) (h : Left Room step (incidences t nodes operands roots producers p) words end) where
-    parts : Fits Room step of_nodes words × Left Room step (of_producers ++ of_roots) (passed step of_nodes words) end
+  abbrev of_all : List Item
+  of_all = incidences t nodes operands roots producers p
+
+  module _ (words : List ℕ) (h : Fits Room step of_all words) where
+    parts : Fits Room step of_nodes words × Left Room step (of_producers ++ of_roots) (passed step of_nodes words) (passed step of_all words)
     unfolding incidences
-    parts = left_part Room step of_nodes (of_producers ++ of_roots) words end h
+    parts = left_part Room step of_nodes (of_producers ++ of_roots) words (passed step of_all words) (left_all Room step of_all words h)
 
     pub nodes_fit : Fits Room step of_nodes words
     nodes_fit = parts.0
 
     module _ (behind : List ℕ) (a : behind ≡ passed step of_nodes words) where
-      later : Fits Room step of_producers behind × Left Room step of_roots (passed step of_producers behind) end
-      later = left_part Room step of_producers of_roots behind end (rw a parts.1)
+      later : Fits Room step of_producers behind × Left Room step of_roots (passed step of_producers behind) (passed step of_all words)
+      later = left_part Room step of_producers of_roots behind (passed step of_all words) (rw a parts.1)
 
       pub producers_fit : Fits Room step of_producers behind
       producers_fit = later.0
@@ -137,5 +128,5 @@ module _ (Room : Item → List ℕ → Type 0) (step : Item → List ℕ → Lis
         pub roots_fit : Fits Room step of_roots last
         roots_fit = rw b later.1.fits
 
-        pub all_passed : (out : List ℕ) → out ≡ passed step of_roots last → out ≡ end
+        pub all_passed : (out : List ℕ) → out ≡ passed step of_roots last → out ≡ passed step of_all words
         all_passed out e = e ∙ rw b later.1.ends

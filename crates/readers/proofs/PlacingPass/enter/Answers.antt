@@ -1,5 +1,5 @@
 use Rattle.readers.specs.Pass.{placed}
-use Rattle.readers.proofs.place_one.Goals as goal
+use Rattle.readers.proofs.PlacingPass.enter.Goals as goal
 
 pub returns : goal.returns
 unfolding placed
