@@ -1,38 +1,35 @@
-use Rattle.record.specs.Record.{judged_values}
+use native.Mathlib.Omega.{arith}
+use Rattle.record.specs.Record.{judged_values, unless}
 use Rattle.record.proofs.judge_values.Goals as goal
 
 pub returns-in-Theory : goal.returns-in-Theory
 unfolding judged_values
-returns-in-Theory c = rw c.in-Theory.is
+returns-in-Theory c = grind arith
 
-pub returns-in-Atom : goal.returns-in-Atom
-unfolding judged_values
-returns-in-Atom c = simp (c.in-Atom.is, ← c.all_below.ensures) c.unless.ensures
+pub returns-then-all_below : goal.returns-then-all_below
+unfolding judged_values unless
+returns-then-all_below c = grind arith
 
-pub returns-in-False : goal.returns-in-False
-unfolding judged_values
-returns-in-False c = rw c.in-False.is
+pub returns-else-all_below : goal.returns-else-all_below
+unfolding judged_values unless
+returns-else-all_below c = grind arith
 
-pub returns-in-Implies : goal.returns-in-Implies
-unfolding judged_values
-returns-in-Implies c = simp (c.in-Implies.is, ← c.all_below-in-Implies.ensures) c.unless-in-Implies.ensures
+pub returns-then-all_below-2 : goal.returns-then-all_below-2
+unfolding judged_values unless
+returns-then-all_below-2 c = grind arith
+
+pub returns-else-all_below-2 : goal.returns-else-all_below-2
+unfolding judged_values unless
+returns-else-all_below-2 c = grind arith
 
 pub returns-in-And : goal.returns-in-And
 unfolding judged_values
-returns-in-And c = rw c.in-And.is c.judge_group.ensures
+returns-in-And c = grind arith
 
-pub returns-in-Or : goal.returns-in-Or
-unfolding judged_values
-returns-in-Or c = rw c.in-Or.is c.judge_group-in-Or.ensures
+pub returns-then-all_below-3 : goal.returns-then-all_below-3
+unfolding judged_values unless
+returns-then-all_below-3 c = grind arith
 
-pub returns-in-Root : goal.returns-in-Root
-unfolding judged_values
-returns-in-Root c = simp (c.in-Root.is, ← c.all_below-in-Root.ensures) c.unless-in-Root.ensures
-
-pub returns-in-Candidate : goal.returns-in-Candidate
-unfolding judged_values
-returns-in-Candidate c = rw c.in-Candidate.is c.judge_candidate.ensures
-
-pub returns-in-Unknown : goal.returns-in-Unknown
-unfolding judged_values
-returns-in-Unknown c = rw c.in-Unknown.is
+pub returns-else-all_below-3 : goal.returns-else-all_below-3
+unfolding judged_values unless
+returns-else-all_below-3 c = grind arith
