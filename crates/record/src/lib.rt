@@ -55,62 +55,22 @@ pub struct Values {
     pub count: usize,
 }
 
-fn is_mark(file: &[u8], at: usize, mark: &[u8; 2]) -> bool
-    requires { at + 2 ≤ length file.now }
-    ensures { result ≡ is_mark file.now at mark.now }
-{
-    if file[at] == mark[0] {
-        file[at + 1] == mark[1]
-    } else {
-        false
-    }
-}
-
-// The mark of a node.
-fn node_mark_at(file: &[u8], at: usize) -> Mark
-    requires { at + 2 ≤ length file.now }
-    ensures { result ≡ node_mark_at file.now at }
-{
-    if is_mark(file, at, b"NA") {
-        return Mark::Atom;
-    }
-    if is_mark(file, at, b"NF") {
-        return Mark::False;
-    }
-    if is_mark(file, at, b"NI") {
-        return Mark::Implies;
-    }
-    if is_mark(file, at, b"NC") {
-        return Mark::And;
-    }
-    if is_mark(file, at, b"ND") {
-        return Mark::Or;
-    }
-    Mark::Unknown
-}
-
+#[tactic(auto, unfolding(crate::specs::Mark::mark_at, crate::specs::Mark::node_mark_at, crate::specs::Mark::is_mark))]
 pub fn mark_at(file: &[u8], at: usize) -> Mark
     requires { at + 2 ≤ length file.now }
     ensures { result ≡ mark_at file.now at }
 {
-    if is_mark(file, at, b"TH") {
-        return Mark::Theory;
+    match (file[at], file[at + 1]) {
+        (b'T', b'H') => Mark::Theory,
+        (b'R', b'T') => Mark::Root,
+        (b'C', b'A') => Mark::Candidate,
+        (b'N', b'A') => Mark::Atom,
+        (b'N', b'F') => Mark::False,
+        (b'N', b'I') => Mark::Implies,
+        (b'N', b'C') => Mark::And,
+        (b'N', b'D') => Mark::Or,
+        _ => Mark::Unknown,
     }
-    if is_mark(file, at, b"RT") {
-        return Mark::Root;
-    }
-    if is_mark(file, at, b"CA") {
-        return Mark::Candidate;
-    }
-    node_mark_at(file, at)
-}
-
-fn byte(file: &[u8], at: usize) -> usize
-    requires { at < length file.now }
-    ensures value { result ≡ get_or file.now at 0 }
-    ensures upper_bound { result < 256 }
-{
-    file[at] as usize
 }
 
 // Four bytes, low byte first.
@@ -119,10 +79,7 @@ pub fn number(file: &[u8], at: usize) -> usize
     ensures value { result ≡ number file.now at }
     ensures upper_bound { result < 4294967296 }
 {
-    byte(file, at)
-        + 256 * byte(file, at + 1)
-        + 65536 * byte(file, at + 2)
-        + 16777216 * byte(file, at + 3)
+    u32::from_le_bytes([file[at], file[at + 1], file[at + 2], file[at + 3]]) as usize
 }
 
 fn in_order(mark: Mark, stage: usize) -> bool
