@@ -13,6 +13,7 @@ use Rattle.theory.specs.Limits.{limits_of}
 use Rattle.theory.specs.Refusal.{told, number_of}
 use Rattle.theory.specs.declared.Refusal.{Refusal}
 use Rattle.theory.specs.declared.Refusal.TheVariants.{BadKind, CutRecord, PastLimit, BadAtom, BadOperand, NoOperands, BadRoot, NotRising}
+use Rattle.record.specs.Stage.{at_start}
 use Rattle.record.specs.Mark.{mark_at, in_order}
 use Rattle.record.specs.Rising.{rising}
 use Rattle.record.specs.Layout.{record_end, values_of}
@@ -66,7 +67,7 @@ module _ (r : Refusal) where
 
   by_end : (c : Cursor) (t : Contents) → ended c t ≡ refused r → number_of r ≤ 8
   unfolding ended told
-  by_end c t = go (eqb c.stage 0)
+  by_end c t = go (at_start c.stage)
     where
       go : (b : Bool) → cond b (refused (BadKind c.records)) (sound (summary c) t) ≡ refused r → number_of r ≤ 8
       go true e = let q : BadKind c.records ≡ r = cc in subst (λ (x : Refusal). number_of x ≤ 8) q (omega arith)

@@ -13,6 +13,7 @@ use Rattle.theory.specs.Limits.{limits_of, Limited}
 use Rattle.theory.specs.declared.Counts.{Counts}
 use Rattle.theory.specs.declared.Refusal.{Refusal}
 use Rattle.theory.specs.declared.Refusal.TheVariants.{BadKind, CutRecord, PastLimit}
+use Rattle.record.specs.Stage.{at_start}
 use Rattle.record.specs.Mark.{mark_at, in_order}
 use Rattle.record.specs.Number.{numbers}
 use Rattle.record.specs.Layout.{counted, arity, value_count, values_start, record_end, values_of}
@@ -163,16 +164,16 @@ passed_fields c Candidate t end = (refl, refl, refl, omega arith)
 passed_fields c Unknown t end = (refl, refl, refl, omega arith)
 
 -- after a record in order something was read
-pub begun : (c : Cursor) (mark : Mark) (t : Counts) (end : ℕ) → in_order mark c.stage ≡ true → (passed c mark t end).stage ≡ 0 → ⊥
-begun c Theory t end o e = omega arith
-begun c Atom t end o e = omega arith
-begun c False t end o e = omega arith
-begun c Implies t end o e = omega arith
-begun c And t end o e = omega arith
-begun c Or t end o e = omega arith
-begun c Root t end o e = omega arith
-begun c Candidate t end o e = omega arith
-begun c Unknown t end o e = false≢true o
+pub begun : (c : Cursor) (mark : Mark) (t : Counts) (end : ℕ) → in_order mark c.stage ≡ true → at_start (passed c mark t end).stage ≡ false
+begun c Theory t end o = refl
+begun c Atom t end o = refl
+begun c False t end o = refl
+begun c Implies t end o = refl
+begun c And t end o = refl
+begun c Or t end o = refl
+begun c Root t end o = refl
+begun c Candidate t end o = refl
+begun c Unknown t end o = absurd (false≢true o)
 
 -- the cursor moves on and keeps its bounds
 pub next_within : (file : List ℕ) (c next : Cursor) → judged file c ≡ Ok next → Within (length file) c

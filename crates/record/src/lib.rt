@@ -29,12 +29,21 @@ pub enum Mark {
     Unknown,
 }
 
+// How far into a file a record stands: before the first one, then among the nodes, the roots or the candidates.
+#[derive(Clone, Copy, PartialEq, Eq)]
+pub enum Stage {
+    Start,
+    Nodes,
+    Roots,
+    Candidates,
+}
+
 // Where a record begins, how many came before it, the stage and the counts they lead to, and where the candidates begin.
 #[derive(Clone, Copy)]
 pub struct Cursor {
     pub at: usize,
     pub records: usize,
-    pub stage: usize,
+    pub stage: Stage,
     pub counts: Counts,
     pub candidates: usize,
     pub first: usize,
@@ -82,14 +91,14 @@ pub fn number(file: &[u8], at: usize) -> usize
     u32::from_le_bytes([file[at], file[at + 1], file[at + 2], file[at + 3]]) as usize
 }
 
-fn in_order(mark: Mark, stage: usize) -> bool
+fn in_order(mark: Mark, stage: Stage) -> bool
     ensures { result ≡ in_order mark stage }
 {
     match mark {
-        Mark::Theory => stage == 0,
-        Mark::Atom | Mark::False | Mark::Implies | Mark::And | Mark::Or => stage == 1,
-        Mark::Root => stage == 1 || stage == 2,
-        Mark::Candidate => stage != 0,
+        Mark::Theory => stage == Stage::Start,
+        Mark::Atom | Mark::False | Mark::Implies | Mark::And | Mark::Or => stage == Stage::Nodes,
+        Mark::Root => stage == Stage::Nodes || stage == Stage::Roots,
+        Mark::Candidate => stage != Stage::Start,
         Mark::Unknown => false,
     }
 }
@@ -219,7 +228,7 @@ pub fn counts_after(file: &[u8], t: Counts, mark: Mark, v: Values) -> Counts
 }
 
 // The cursor past a record that is no candidate.
-fn passed_other(c: Cursor, stage: usize, counts: Counts, end: usize) -> Cursor
+fn passed_other(c: Cursor, stage: Stage, counts: Counts, end: usize) -> Cursor
     requires { c.records < 9223372036854775808 }
     ensures { result ≡ passed_other c stage counts end }
 {
@@ -240,18 +249,18 @@ pub fn passed(c: Cursor, mark: Mark, counts: Counts, end: usize) -> Cursor
 {
     match mark {
         Mark::Theory | Mark::Atom | Mark::False | Mark::Implies | Mark::And | Mark::Or => {
-            passed_other(c, 1, counts, end)
+            passed_other(c, Stage::Nodes, counts, end)
         }
-        Mark::Root => passed_other(c, 2, counts, end),
+        Mark::Root => passed_other(c, Stage::Roots, counts, end),
         Mark::Candidate => Cursor {
             at: end,
             records: c.records + 1,
-            stage: 3,
+            stage: Stage::Candidates,
             counts,
             candidates: c.candidates + 1,
             first: c.first,
         },
-        Mark::Unknown => passed_other(c, 0, counts, end),
+        Mark::Unknown => passed_other(c, Stage::Start, counts, end),
     }
 }
 
@@ -361,7 +370,7 @@ pub fn start() -> Cursor
     Cursor {
         at: 0,
         records: 0,
-        stage: 0,
+        stage: Stage::Start,
         counts: Counts {
             stamp: 0,
             atoms: 0,
@@ -382,12 +391,12 @@ pub fn judge(file: &[u8]) -> Result<Summary, Refusal>
     while c.at < file.len() {
         c = judge_record(file, c)?;
     }
-    if c.stage == 0 {
-        return Err(Refusal::BadKind(c.records));
+    match c.stage {
+        Stage::Start => Err(Refusal::BadKind(c.records)),
+        _ => Ok(Summary {
+            counts: c.counts,
+            candidates: c.candidates,
+            first: c.first,
+        }),
     }
-    Ok(Summary {
-        counts: c.counts,
-        candidates: c.candidates,
-        first: c.first,
-    })
 }
