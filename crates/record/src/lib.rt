@@ -130,12 +130,10 @@ fn is_whole(file: &[u8], at: usize, mark: Mark) -> bool
 {
     let left = file.len() - (at + 2);
     if counted(mark) {
-        if left < 4 {
-            return false;
-        }
-        return 4 * number(file, at + 2) <= left - 4;
+        left >= 4 && 4 * number(file, at + 2) <= left - 4
+    } else {
+        4 * arity(mark) <= left
     }
-    4 * arity(mark) <= left
 }
 
 // Of a whole record.
@@ -190,39 +188,30 @@ fn is_rising(file: &[u8], v: Values) -> bool
     true
 }
 
-fn more(t: Counts, nodes: usize, operands: usize, roots: usize) -> Counts
-    requires { (t.nodes + nodes < 8589934592) × (t.operands + operands < 8589934592) × (t.roots + roots < 8589934592) }
-    ensures { result ≡ more t nodes operands roots }
-{
-    Counts {
-        nodes: t.nodes + nodes,
-        operands: t.operands + operands,
-        roots: t.roots + roots,
-        ..t
-    }
-}
-
-fn with_atoms(file: &[u8], t: Counts, v: Values) -> Counts
-    requires { (v.start + 4 * v.count ≤ length file.now) × (2 ≤ v.count) }
-    ensures { result ≡ counts_after t Mark.Theory (numbers file.now v.start v.count) }
-{
-    Counts {
-        stamp: number(file, v.start) as u32,
-        atoms: number(file, v.start + 4),
-        ..t
-    }
-}
-
 // The counts with what a record adds to them.
 pub fn counts_after(file: &[u8], t: Counts, mark: Mark, v: Values) -> Counts
     requires { (v.start + 4 * v.count ≤ length file.now) × (arity mark ≤ v.count) × (v.count < 4294967296) × Limited t }
     ensures { result ≡ counts_after t mark (numbers file.now v.start v.count) }
 {
     match mark {
-        Mark::Theory => with_atoms(file, t, v),
-        Mark::Atom | Mark::False | Mark::Implies => more(t, 1, 0, 0),
-        Mark::And | Mark::Or => more(t, 1, v.count, 0),
-        Mark::Root => more(t, 0, 0, v.count),
+        Mark::Theory => Counts {
+            stamp: number(file, v.start) as u32,
+            atoms: number(file, v.start + 4),
+            ..t
+        },
+        Mark::Atom | Mark::False | Mark::Implies => Counts {
+            nodes: t.nodes + 1,
+            ..t
+        },
+        Mark::And | Mark::Or => Counts {
+            nodes: t.nodes + 1,
+            operands: t.operands + v.count,
+            ..t
+        },
+        Mark::Root => Counts {
+            roots: t.roots + v.count,
+            ..t
+        },
         Mark::Candidate | Mark::Unknown => t,
     }
 }
@@ -279,6 +268,7 @@ fn judge_group(file: &[u8], c: Cursor, v: Values, next: Cursor) -> Result<Cursor
 }
 
 // A candidate: 4, 8.
+#[tactic(auto, unfolding(crate::specs::Record::judged_values, crate::specs::Record::unless))]
 fn judge_candidate(file: &[u8], c: Cursor, v: Values, next: Cursor) -> Result<Cursor, Refusal>
     requires { v.start + 4 * v.count ≤ length file.now }
     ensures { result ≡ judged_values c Mark.Candidate (numbers file.now v.start v.count) (Ok next) }
@@ -293,6 +283,7 @@ fn judge_candidate(file: &[u8], c: Cursor, v: Values, next: Cursor) -> Result<Cu
 }
 
 // 6, 4, 5, 7, 8 by the values of the record.
+#[tactic(auto, unfolding(crate::specs::Record::judged_values, crate::specs::Record::unless))]
 fn judge_values(
     file: &[u8],
     c: Cursor,
