@@ -20,10 +20,8 @@ fn insert_all(file: &[u8], from: usize, count: usize, words: &mut [u64])
     requires { (from + 4 * count ≤ length file.now) × Each (λ a. a / 64 < length words.old) (numbers file.now from count) }
     ensures { words.new ≡ inserted_all words.old (numbers file.now from count) }
 {
-    let mut i = 0;
-    while i < count {
+    for i in 0..count {
         words::set64::insert(words, record::number(file, from + 4 * i));
-        i += 1;
     }
 }
 

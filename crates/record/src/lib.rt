@@ -295,30 +295,12 @@ fn judge_values(
     ensures { result ≡ judged_values c mark (numbers file.now v.start v.count) (Ok next) }
 {
     match mark {
-        Mark::Atom => {
-            if all_below(file, v, c.counts.atoms) {
-                Ok(next)
-            } else {
-                Err(Refusal::BadAtom(c.records))
-            }
-        }
-        Mark::Implies => {
-            if all_below(file, v, c.counts.nodes) {
-                Ok(next)
-            } else {
-                Err(Refusal::BadOperand(c.records))
-            }
-        }
+        Mark::Atom if !all_below(file, v, c.counts.atoms) => Err(Refusal::BadAtom(c.records)),
+        Mark::Implies if !all_below(file, v, c.counts.nodes) => Err(Refusal::BadOperand(c.records)),
         Mark::And | Mark::Or => judge_group(file, c, v, next),
-        Mark::Root => {
-            if all_below(file, v, c.counts.nodes) {
-                Ok(next)
-            } else {
-                Err(Refusal::BadRoot(c.records))
-            }
-        }
+        Mark::Root if !all_below(file, v, c.counts.nodes) => Err(Refusal::BadRoot(c.records)),
         Mark::Candidate => judge_candidate(file, c, v, next),
-        Mark::Theory | Mark::False | Mark::Unknown => Ok(next),
+        _ => Ok(next),
     }
 }
 
