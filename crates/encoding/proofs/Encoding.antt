@@ -18,6 +18,7 @@ use Rattle.record.specs.File.{sound, ended, read_from, start, theory_file}
 use Rattle.record.specs.declared.Cursor.{Cursor}
 use Rattle.record.specs.declared.Mark.{Mark}
 use Rattle.record.specs.declared.Mark.TheVariants as mark
+use Rattle.record.specs.declared.Stage.TheVariants as stage
 use Rattle.record.specs.declared.Summary.{Summary}
 use Rattle.record.proofs.Steps.{Passed}
 use Rattle.encoding.specs.Value.{TheoryFile}
@@ -57,7 +58,7 @@ module _ (f : TheoryFile) where
         limited = rw (more_opening f.stamp f.atoms) s.limited;
       }
 
-  whole : outcome f.nodes f.roots f.candidates (passed_other start 1 (opening f.stamp f.atoms) (0 + length (form_of mark.Theory (f.stamp ∷ f.atoms ∷ [])))) nothing
+  whole : outcome f.nodes f.roots f.candidates (passed_other start stage.Nodes (opening f.stamp f.atoms) (0 + length (form_of mark.Theory (f.stamp ∷ f.atoms ∷ [])))) nothing
       ≡ sound (summary_of f) (contents_of f)
   unfolding outcome summary_of counts_of contents_of theory_bytes form_of
   whole =

@@ -13,6 +13,7 @@ use borrow.Author.Tests.{eqb-true}
 use Rattle.record.specs.Mark.{is_mark, node_mark_at, mark_at, in_order}
 use Rattle.record.specs.Number.{number, numbers}
 use Rattle.record.specs.Layout.{counted, arity, value_count, values_start, record_end, values_of}
+use Rattle.record.specs.declared.Stage.{Stage}
 use Rattle.record.specs.declared.Mark.{Mark}
 use Rattle.record.specs.declared.Mark.TheVariants.{Theory, Atom, False, Implies, And, Or, Root, Candidate, Unknown}
 use Rattle.record.proofs.Laws.{length-numbers}
@@ -60,7 +61,7 @@ length_form mark vs = omega (arith, length-bytes (numbers_in (counted mark) vs))
 
 -- ---- marks
 
-mark_read : (file : List ℕ) (at stage : ℕ) (mark : Mark) → in_order mark stage ≡ true → get_or file at 0 ≡ first_letter mark → get_or file (at + 1) 0 ≡ second_letter mark
+mark_read : (file : List ℕ) (at : ℕ) (stage : Stage) (mark : Mark) → in_order mark stage ≡ true → get_or file at 0 ≡ first_letter mark → get_or file (at + 1) 0 ≡ second_letter mark
     → mark_at file at ≡ mark
 unfolding mark_at node_mark_at is_mark
 mark_read file at stage Theory o p q = rw (p, q)
@@ -74,10 +75,10 @@ mark_read file at stage Candidate o p q = rw (p, q)
 mark_read file at stage Unknown o p q = absurd (false≢true o)
 
 -- the letters of a mark in order stand there
-abbrev Lettered : List ℕ → ℕ → ℕ → Mark → Type 0
+abbrev Lettered : List ℕ → ℕ → Stage → Mark → Type 0
 Lettered file at stage mark = in_order mark stage ≡ true → (get_or file at 0 ≡ first_letter mark) × (get_or file (at + 1) 0 ≡ second_letter mark)
 
-module _ (file : List ℕ) (at stage : ℕ) where
+module _ (file : List ℕ) (at : ℕ) (stage : Stage) where
   choice : (mark other : Mark) → Lettered file at stage other → Lettered file at stage (cond (is_mark file at (first_letter mark ∷ second_letter mark ∷ [])) mark other)
   unfolding is_mark
   choice mark other l = go (eqb (get_or file at 0) (first_letter mark)) refl (eqb (get_or file (at + 1) 0) (second_letter mark)) refl
@@ -100,7 +101,7 @@ pub record Stands (file : List ℕ) (at : ℕ) (mark : Mark) (vs : List ℕ) : T
   pub values : values_of file at mark ≡ vs
   pub end : record_end file at mark ≡ at + length (form_of mark vs)
 
-module _ (file : List ℕ) (at stage : ℕ) (mark : Mark) (vs rest : List ℕ) (ordered : in_order mark stage ≡ true) (small : Below 4294967296 (numbers_in (counted mark) vs))
+module _ (file : List ℕ) (at : ℕ) (stage : Stage) (mark : Mark) (vs rest : List ℕ) (ordered : in_order mark stage ≡ true) (small : Below 4294967296 (numbers_in (counted mark) vs))
     (many : cond (counted mark) (length vs) (arity mark) ≡ length vs) (left : drop at file ≡ form_of mark vs ++ rest) where
   after_mark : drop (at + 2) file ≡ flat_map number_bytes (numbers_in (counted mark) vs) ++ rest
   unfolding form_of record_bytes
@@ -132,7 +133,7 @@ module _ (file : List ℕ) (at stage : ℕ) (mark : Mark) (vs rest : List ℕ) (
 
 -- ---- writing what was read
 
-module _ (file : List ℕ) (bytes : Below 256 file) (at stage : ℕ) (mark : Mark) (ordered : in_order mark stage ≡ true) (named : mark_at file at ≡ mark) (whole : record_end file at mark ≤ length file) where
+module _ (file : List ℕ) (bytes : Below 256 file) (at : ℕ) (stage : Stage) (mark : Mark) (ordered : in_order mark stage ≡ true) (named : mark_at file at ≡ mark) (whole : record_end file at mark ≤ length file) where
   two_letters : at + 2 ≤ length file → drop at file ≡ first_letter mark ∷ second_letter mark ∷ drop (at + 2) file
   two_letters h =
       let l = lettered file at stage (rw named ordered) in

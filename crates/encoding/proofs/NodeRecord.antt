@@ -7,7 +7,7 @@ use mathlib.Core.Path.{◌≡◌, refl}
 use mathlib.Core.Bool.{true, cond}
 use mathlib.Core.List.{List, [], ◌∷◌}
 use lib.ListN.{length}
-use borrow.Author.Tests.{eq-eqb, ne_eqb}
+use borrow.Author.Tests.{ne_eqb}
 use Rattle.base.specs.Each.{each_map}
 use Rattle.theory.specs.Spans.{each_all_below}
 use Rattle.theory.specs.declared.Counts.{Counts}
@@ -16,6 +16,8 @@ use Rattle.record.specs.Layout.{counted, arity}
 use Rattle.record.specs.Passed.{more, counts_after, passed, passed_other}
 use Rattle.record.specs.Record.{unless, judged_group, judged_values}
 use Rattle.record.specs.Contents.{of_record}
+use Rattle.record.specs.declared.Stage.{Stage}
+use Rattle.record.specs.declared.Stage.TheVariants as stage
 use Rattle.record.specs.declared.Cursor.{Cursor}
 use Rattle.record.specs.declared.Mark.{Mark}
 use Rattle.record.specs.declared.Mark.TheVariants as mark
@@ -51,12 +53,12 @@ node_form (Implies l r) = refl
 node_form (And os) = refl
 node_form (Or os) = refl
 
-pub node_ordered : (n : Node) (stage : ℕ) → stage ≡ 1 → in_order (mark_of n) stage ≡ true
-node_ordered (Atom a) stage e = eq-eqb stage 1 e
-node_ordered False stage e = eq-eqb stage 1 e
-node_ordered (Implies l r) stage e = eq-eqb stage 1 e
-node_ordered (And os) stage e = eq-eqb stage 1 e
-node_ordered (Or os) stage e = eq-eqb stage 1 e
+pub node_ordered : (n : Node) (s : Stage) → s ≡ stage.Nodes → in_order (mark_of n) s ≡ true
+node_ordered (Atom a) s e = rw e
+node_ordered False s e = rw e
+node_ordered (Implies l r) s e = rw e
+node_ordered (And os) s e = rw e
+node_ordered (Or os) s e = rw e
 
 pub node_many : (n : Node) → cond (counted (mark_of n)) (length (values_in n)) (arity (mark_of n)) ≡ length (values_in n)
 node_many (Atom a) = refl
@@ -81,7 +83,7 @@ node_contents start (Implies l r) = refl
 node_contents start (And os) = refl
 node_contents start (Or os) = refl
 
-pub node_past : (c : Cursor) (n : Node) (t : Counts) (end : ℕ) → passed c (mark_of n) t end ≡ passed_other c 1 t end
+pub node_past : (c : Cursor) (n : Node) (t : Counts) (end : ℕ) → passed c (mark_of n) t end ≡ passed_other c stage.Nodes t end
 node_past c (Atom a) t end = refl
 node_past c False t end = refl
 node_past c (Implies l r) t end = refl

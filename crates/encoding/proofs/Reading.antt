@@ -5,16 +5,17 @@ use Prim.Native.Nat.{ℕ, zero, suc, ◌+◌, ◌-◌, ◌<◌, ◌≤◌}
 use native.Mathlib.Omega.{arith}
 use mathlib.Core.Path.{◌≡◌, refl, sym, ap, ◌∙◌}
 use mathlib.Core.Logic.{◌⊎◌, inl, inr, ⊎_elim}
-use mathlib.Core.Bool.{true, cond}
+use mathlib.Core.Bool.{true, false, cond}
 use mathlib.Core.List.{List, [], ◌∷◌, ◌++◌, flat_map, append_assoc}
 use lib.Dec.{ltb}
 use lib.ListN.{length, length-append, length-drop}
-use borrow.Author.Tests.{ne_eqb, le-leb, ltb-true}
+use borrow.Author.Tests.{le-leb, ltb-true}
 use Rattle.base.specs.Tests.{both_left, both_right}
 use Rattle.theory.specs.Limits.{Limited}
 use Rattle.theory.specs.LimitsLaws.{limited_admitted}
 use Rattle.theory.specs.Spans.{each_all_below}
 use Rattle.theory.specs.declared.Counts.{Counts}
+use Rattle.record.specs.Stage.{at_start}
 use Rattle.record.specs.Mark.{in_order}
 use Rattle.record.specs.Rising.{rising_from, rising}
 use Rattle.record.specs.Layout.{counted, arity}
@@ -22,6 +23,7 @@ use Rattle.record.specs.Passed.{more, counts_after, passed}
 use Rattle.record.specs.Record.{unless, judged_values, judged_whole, judged_marked, judged}
 use Rattle.record.specs.Contents.{Contents, joined, of_record, of_next}
 use Rattle.record.specs.File.{File, read_from}
+use Rattle.record.specs.declared.Stage.TheVariants as stage
 use Rattle.record.specs.declared.Cursor.{Cursor}
 use Rattle.record.specs.declared.Mark.{Mark}
 use Rattle.record.specs.declared.Mark.TheVariants as mark
@@ -103,7 +105,7 @@ rising_short bound [] b r = omega arith
 rising_short bound (x ∷ xs) b r = omega (arith, rising_from_short bound x xs b.0 b.1 r)
 
 module _ (file : List ℕ) (c : Cursor) (t : Contents) (rest : List ℕ) (goal : File) where
-  node_read : (n : Node) → c.stage ≡ 1 → SoundNode c.counts.atoms c.counts.nodes n → Limited (more c.counts 1 (length (operand_entries n)) 0)
+  node_read : (n : Node) → c.stage ≡ stage.Nodes → SoundNode c.counts.atoms c.counts.nodes n → Limited (more c.counts 1 (length (operand_entries n)) 0)
       → ((turns : ℕ) → At file (c.at + length (node_bytes n)) turns rest → read_from file (past_node c n) (joined t (of_node c.counts.operands n)) turns ≡ goal)
       → (turns : ℕ) → At file c.at turns (node_bytes n ++ rest) → read_from file c t turns ≡ goal
   node_read n e s l go =
@@ -121,7 +123,7 @@ module _ (file : List ℕ) (c : Cursor) (t : Contents) (rest : List ℕ) (goal :
             passes = λ next. node_passes c (Ok next) n s;
           }
 
-  root_read : (r : ℕ) → (c.stage ≡ 1) ⊎ (c.stage ≡ 2) → r < c.counts.nodes → Limited (more c.counts 0 0 1)
+  root_read : (r : ℕ) → (c.stage ≡ stage.Nodes) ⊎ (c.stage ≡ stage.Roots) → r < c.counts.nodes → Limited (more c.counts 0 0 1)
       → ((turns : ℕ) → At file (c.at + length (root_bytes r)) turns rest → read_from file (past_root c r) (joined t (of_root r)) turns ≡ goal)
       → (turns : ℕ) → At file c.at turns (root_bytes r ++ rest) → read_from file c t turns ≡ goal
   unfolding form_of root_bytes judged_values unless
@@ -135,14 +137,14 @@ module _ (file : List ℕ) (c : Cursor) (t : Contents) (rest : List ℕ) (goal :
         passes = λ next. rw (each_all_below c.counts.nodes (r ∷ []) (s, tt));
       }) t goal go
 
-  candidate_read : (xs : List ℕ) → (c.stage ≡ 0 → ⊥) → SoundCandidate c.counts.atoms xs → Limited c.counts
+  candidate_read : (xs : List ℕ) → at_start c.stage ≡ false → SoundCandidate c.counts.atoms xs → Limited c.counts
       → ((turns : ℕ) → At file (c.at + length (candidate_bytes xs)) turns rest → read_from file (past_candidate c xs) (joined t (of_candidate xs)) turns ≡ goal)
       → (turns : ℕ) → At file c.at turns (candidate_bytes xs ++ rest) → read_from file c t turns ≡ goal
   unfolding form_of candidate_bytes judged_values unless
   candidate_read xs e s l go =
       record_read file c mark.Candidate xs rest
       (record {
-        ordered = rw (ne_eqb c.stage 0 e);
+        ordered = rw e;
         small = (omega (arith, rising_short c.counts.atoms xs s.0 s.1, l.atoms), below_small c.counts.atoms xs (omega (arith, l.atoms)) s.0);
         many = refl;
         limited = l;
@@ -156,31 +158,31 @@ limited_less t u a n o r l =
     record { atoms = omega (arith, l.atoms); nodes = omega (arith, l.nodes); operands = omega (arith, l.operands); roots = omega (arith, l.roots) }
 
 module _ (file : List ℕ) where
-  end_read : (c : Cursor) (t : Contents) (turns : ℕ) → (c.stage ≡ 0 → ⊥) → At file c.at turns [] → read_from file c t turns ≡ outcome [] [] [] c t
+  end_read : (c : Cursor) (t : Contents) (turns : ℕ) → at_start c.stage ≡ false → At file c.at turns [] → read_from file c t turns ≡ outcome [] [] [] c t
   end_read c t turns h a =
       let none : 0 ≡ length file - c.at = ap length (sym a.left) ∙ length-drop c.at file in
       read_end file c t turns (omega (arith, a.within)) ∙ end_turn c t h
 
-  candidates_read : (cs : List (List ℕ)) (c : Cursor) (t : Contents) (turns : ℕ) → (c.stage ≡ 0 → ⊥) → SoundRest [] [] cs c.counts
+  candidates_read : (cs : List (List ℕ)) (c : Cursor) (t : Contents) (turns : ℕ) → at_start c.stage ≡ false → SoundRest [] [] cs c.counts
       → At file c.at turns (flat_map candidate_bytes cs) → read_from file c t turns ≡ outcome [] [] cs c t
   unfolding flat_map
   candidates_read [] c t turns h s a = end_read c t turns h a
   candidates_read (xs ∷ cs) c t turns h s a =
       candidate_read file c t (flat_map candidate_bytes cs) (outcome [] [] (xs ∷ cs) c t) xs h s.candidates.0
       (limited_less c.counts _ (omega arith) (omega arith) (omega arith) (omega arith) s.limited)
-      (λ left b. candidates_read cs (past_candidate c xs) (joined t (of_candidate xs)) left (λ e. omega arith) (candidate_off c.counts cs xs s) b ∙ candidate_turn c t xs cs) turns a
+      (λ left b. candidates_read cs (past_candidate c xs) (joined t (of_candidate xs)) left refl (candidate_off c.counts cs xs s) b ∙ candidate_turn c t xs cs) turns a
 
-  roots_read : (rs : List ℕ) (cs : List (List ℕ)) (c : Cursor) (t : Contents) (turns : ℕ) → (c.stage ≡ 1) ⊎ (c.stage ≡ 2) → c.first ≡ c.at → SoundRest [] rs cs c.counts
+  roots_read : (rs : List ℕ) (cs : List (List ℕ)) (c : Cursor) (t : Contents) (turns : ℕ) → (c.stage ≡ stage.Nodes) ⊎ (c.stage ≡ stage.Roots) → c.first ≡ c.at → SoundRest [] rs cs c.counts
       → At file c.at turns (flat_map root_bytes rs ++ flat_map candidate_bytes cs) → read_from file c t turns ≡ outcome [] rs cs c t
   unfolding flat_map
-  roots_read [] cs c t turns h e s a = candidates_read cs c t turns (λ z. ⊎_elim (λ q. omega arith) (λ q. omega arith) h) s a
+  roots_read [] cs c t turns h e s a = candidates_read cs c t turns (⊎_elim (λ q. rw q) (λ q. rw q) h) s a
   roots_read (r ∷ rs) cs c t turns h e s a =
       root_read file c t (flat_map root_bytes rs ++ flat_map candidate_bytes cs) (outcome [] (r ∷ rs) cs c t) r h (omega (arith, s.roots.0))
       (limited_less (more c.counts 0 0 1) _ (omega arith) (omega arith) (omega arith) (omega arith) s.limited)
       (λ left b. roots_read rs cs (past_root c r) (joined t (of_root r)) left (inr refl) refl (root_off c.counts cs r rs s) b ∙ root_turn c t r rs cs e) turns
       (rw (append_assoc (root_bytes r) (flat_map root_bytes rs) (flat_map candidate_bytes cs)) at a)
 
-  pub rest_read : (ns : List Node) (rs : List ℕ) (cs : List (List ℕ)) (c : Cursor) (t : Contents) (turns : ℕ) → c.stage ≡ 1 → c.first ≡ c.at → SoundRest ns rs cs c.counts
+  pub rest_read : (ns : List Node) (rs : List ℕ) (cs : List (List ℕ)) (c : Cursor) (t : Contents) (turns : ℕ) → c.stage ≡ stage.Nodes → c.first ≡ c.at → SoundRest ns rs cs c.counts
       → At file c.at turns (rest_bytes ns rs cs) → read_from file c t turns ≡ outcome ns rs cs c t
   unfolding rest_bytes flat_map
   rest_read [] rs cs c t turns h e s a = roots_read rs cs c t turns (inl h) e s a

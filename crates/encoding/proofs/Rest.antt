@@ -4,15 +4,17 @@ use Prim.Native.Nat.{ℕ, suc, ◌+◌, ◌<◌, ◌≤◌}
 use native.Mathlib.Nat.{add-zero}
 use native.Mathlib.Omega.{arith}
 use mathlib.Core.Path.{◌≡◌, refl}
+use mathlib.Core.Bool.{false}
 use mathlib.Core.List.{List, [], ◌∷◌, ◌++◌, flat_map, append-nil, append_assoc}
 use lib.ListN.{length, drop, length-append}
-use borrow.Author.Tests.{ne_eqb}
 use Rattle.base.specs.Each.{Each}
 use Rattle.theory.specs.Limits.{Limited}
 use Rattle.theory.specs.declared.Counts.{Counts}
+use Rattle.record.specs.Stage.{at_start}
 use Rattle.record.specs.Contents.{Contents, nothing, joined}
 use Rattle.record.specs.Passed.{more, passed_other}
 use Rattle.record.specs.File.{File, sound, ended}
+use Rattle.record.specs.declared.Stage.TheVariants as stage
 use Rattle.record.specs.declared.Cursor.{Cursor}
 use Rattle.encoding.specs.Value.{Node}
 use Rattle.encoding.specs.Encoding.{node_bytes, root_bytes, candidate_bytes}
@@ -61,17 +63,17 @@ abbrev pub of_candidate : List ℕ → Contents
 of_candidate xs = record { nodes = []; operands = []; roots = []; candidates = xs ∷ [] }
 
 abbrev pub past_node : Cursor → Node → Cursor
-past_node c n = passed_other c 1 (more c.counts 1 (length (operand_entries n)) 0) (c.at + length (node_bytes n))
+past_node c n = passed_other c stage.Nodes (more c.counts 1 (length (operand_entries n)) 0) (c.at + length (node_bytes n))
 
 abbrev pub past_root : Cursor → ℕ → Cursor
-past_root c r = passed_other c 2 (more c.counts 0 0 1) (c.at + length (root_bytes r))
+past_root c r = passed_other c stage.Roots (more c.counts 0 0 1) (c.at + length (root_bytes r))
 
 abbrev pub past_candidate : Cursor → List ℕ → Cursor
 past_candidate c xs =
     record {
       at = c.at + length (candidate_bytes xs);
       records = c.records + 1;
-      stage = 3;
+      stage = stage.Candidates;
       counts = c.counts;
       candidates = c.candidates + 1;
       first = c.first;
@@ -140,10 +142,10 @@ module _ (c : Cursor) (t : Contents) where
   unfolding outcome node_table flat_map
   candidate_turn xs cs = same _ _ _ _ _ _ _ _ refl (omega arith) refl (joined_assoc t (of_candidate xs) _)
 
-  pub end_turn : (c.stage ≡ 0 → ⊥) → ended c t ≡ outcome [] [] [] c t
+  pub end_turn : at_start c.stage ≡ false → ended c t ≡ outcome [] [] [] c t
   unfolding ended outcome node_table flat_map
   end_turn h =
-      rw (ne_eqb c.stage 0 h)
+      rw h
       (same _ _ _ _ _ _ _ _ (more_none c.counts) (omega arith) (omega arith) (joined-none t))
 
 -- ---- what is sound, one record on and one record back

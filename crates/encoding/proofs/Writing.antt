@@ -4,27 +4,30 @@ use Rattle.std.specs.Prelude.{Result, Ok, Err}
 use Prim.Native.Nat.{ℕ, zero, suc, ◌+◌, ◌<◌, ◌≤◌}
 use native.Mathlib.Omega.{arith}
 use mathlib.Core.Path.{◌≡◌, refl, sym, ap, ◌∙◌}
-use mathlib.Core.Logic.{⊎_elim}
+use mathlib.Core.Logic.{◌⊎◌, inl, inr, ⊎_elim}
 use mathlib.Core.Bool.{false, false≢true}
 use mathlib.Core.List.{List, [], ◌∷◌, ◌++◌, flat_map, append_assoc}
 use lib.Dec.{eqb}
 use lib.ListN.{length, drop, drop_of_length-le}
-use borrow.Author.Tests.{eqb-true, eqb-false, not-true}
-use Rattle.base.specs.Tests.{either, below_or}
+use borrow.Author.Tests.{eqb-false, not-true}
+use Rattle.base.specs.Tests.{below_or}
 use Rattle.theory.specs.Limits.{Limited}
 use Rattle.theory.specs.Spans.{all_below_each}
 use Rattle.theory.specs.declared.Counts.{Counts}
+use Rattle.record.specs.Stage.{at_start}
 use Rattle.record.specs.Mark.{mark_at}
 use Rattle.record.specs.Layout.{counted, arity, value_count, record_end, values_of}
 use Rattle.record.specs.Passed.{more, counts_after}
 use Rattle.record.specs.Record.{judged_group, judged_values, judged}
 use Rattle.record.specs.Contents.{Contents, joined, of_next}
 use Rattle.record.specs.File.{sound, refused, read_from}
+use Rattle.record.specs.declared.Stage.TheVariants as stage
 use Rattle.record.specs.declared.Cursor.{Cursor}
 use Rattle.record.specs.declared.Mark.{Mark}
 use Rattle.record.specs.declared.Mark.TheVariants as mark
 use Rattle.record.specs.declared.Summary.{Summary}
 use Rattle.record.proofs.Laws.{length-numbers}
+use Rattle.record.proofs.Stages.{is_nodes}
 use Rattle.record.proofs.Steps.{unless_next, end_past, Passed, next_passed, passed_fields, begun}
 use Rattle.record.proofs.Judging.{read-refused, read_next}
 use Rattle.encoding.specs.Value.{Node, Atom, False, Implies, And, Or}
@@ -98,13 +101,13 @@ module _ (file : List ℕ) (bytes : Below 256 file) where
     pub nodes : List Node
     pub roots : List ℕ
     pub candidates : List (List ℕ)
-    pub no_nodes : 1 < c.stage → nodes ≡ []
-    pub no_roots : 2 < c.stage → roots ≡ []
+    pub no_nodes : (c.stage ≡ stage.Roots) ⊎ (c.stage ≡ stage.Candidates) → nodes ≡ []
+    pub no_roots : c.stage ≡ stage.Candidates → roots ≡ []
     pub left : drop c.at file ≡ rest_bytes nodes roots candidates
     pub fits : SoundRest nodes roots candidates c.counts
 
   module _ (c next : Cursor) (r : Rest next) where
-    with_node_lem : (n : Node) → c.stage ≡ 1 → next.counts ≡ more c.counts 1 (length (operand_entries n)) 0 → drop c.at file ≡ node_bytes n ++ drop next.at file
+    with_node_lem : (n : Node) → c.stage ≡ stage.Nodes → next.counts ≡ more c.counts 1 (length (operand_entries n)) 0 → drop c.at file ≡ node_bytes n ++ drop next.at file
         → SoundNode c.counts.atoms c.counts.nodes n → Rest c
     unfolding rest_bytes flat_map
     with_node_lem n o k e h =
@@ -112,33 +115,33 @@ module _ (file : List ℕ) (bytes : Below 256 file) where
           nodes = n ∷ r.nodes;
           roots = r.roots;
           candidates = r.candidates;
-          no_nodes = λ l. absurd (omega arith);
-          no_roots = λ l. absurd (omega arith);
+          no_nodes = λ l. ⊎_elim (λ z. cc) (λ z. cc) l;
+          no_roots = λ z. cc;
           left = e ∙ rw r.left (sym (append_assoc (node_bytes n) (flat_map node_bytes r.nodes) _));
           fits = node_on c.counts r.candidates n r.nodes r.roots h (rw k at r.fits);
         }
 
-    with_root : (x : ℕ) → c.stage < 3 → next.stage ≡ 2 → next.counts ≡ more c.counts 0 0 1 → drop c.at file ≡ root_bytes x ++ drop next.at file
+    with_root : (x : ℕ) → (c.stage ≡ stage.Candidates → ⊥) → next.stage ≡ stage.Roots → next.counts ≡ more c.counts 0 0 1 → drop c.at file ≡ root_bytes x ++ drop next.at file
         → x < c.counts.nodes → Rest c
     unfolding rest_bytes flat_map
     with_root x o p k e h =
-        let none = r.no_nodes (omega arith) in
+        let none = r.no_nodes (inl p) in
         record {
           nodes = [];
           roots = x ∷ r.roots;
           candidates = r.candidates;
           no_nodes = λ l. refl;
-          no_roots = λ l. absurd (omega arith);
+          no_roots = λ l. absurd (o l);
           left = e ∙ rw (r.left, none) (sym (append_assoc (root_bytes x) (flat_map root_bytes r.roots) _));
           fits = root_on c.counts r.candidates x r.roots h (rw (none, k) at r.fits);
         }
 
-    with_candidate_lem : (xs : List ℕ) → next.stage ≡ 3 → next.counts ≡ c.counts → drop c.at file ≡ candidate_bytes xs ++ drop next.at file
+    with_candidate_lem : (xs : List ℕ) → next.stage ≡ stage.Candidates → next.counts ≡ c.counts → drop c.at file ≡ candidate_bytes xs ++ drop next.at file
         → SoundCandidate c.counts.atoms xs → Rest c
     unfolding rest_bytes flat_map
     with_candidate_lem xs p k e h =
-        let none = r.no_nodes (omega arith) in
-        let none' = r.no_roots (omega arith) in
+        let none = r.no_nodes (inr p) in
+        let none' = r.no_roots p in
         record {
           nodes = [];
           roots = [];
@@ -160,7 +163,7 @@ module _ (file : List ℕ) (bytes : Below 256 file) where
     pub left_is : drop c.at file ≡ form_of kind (values_of file c.at kind) ++ drop next.at file
     left_is = rw at-is (written file bytes c.at c.stage kind p.ordered q p.whole)
 
-    with_found : Rest next → c.stage ≡ 1 → Found c.counts kind (values_of file c.at kind) → Rest c
+    with_found : Rest next → c.stage ≡ stage.Nodes → Found c.counts kind (values_of file c.at kind) → Rest c
     with_found r o f =
         let form : form_of kind (values_of file c.at kind) ≡ node_bytes f.node = rw (f.named, f.values) at (node_form f.node) in
         with_node_lem c next r f.node o (counts_are ∙ rw (f.named, f.values) at (node_counts c.counts f.node)) (left_is ∙ rw form) f.fits
@@ -169,23 +172,23 @@ module _ (file : List ℕ) (bytes : Below 256 file) where
   unfolding values_of value_count
   fixed at kind e = length-numbers file _ _ ∙ rw e
 
-  back : (c next : Cursor) → (c.stage ≡ 0 → ⊥) → Rest next → (kind : Mark) → mark_at file c.at ≡ kind → Passed file c next kind (values_of file c.at kind) → Rest c
+  back : (c next : Cursor) → at_start c.stage ≡ false → Rest next → (kind : Mark) → mark_at file c.at ≡ kind → Passed file c next kind (values_of file c.at kind) → Rest c
   unfolding form_of node_bytes root_bytes candidate_bytes judged_values
-  back c next begun r mark.Theory q p = absurd (begun (eqb-true c.stage 0 p.ordered))
+  back c next begun r mark.Theory q p = absurd (false≢true (sym begun ∙ p.ordered))
   back c next begun r mark.Atom q p =
-      with_found c next mark.Atom q p r (eqb-true c.stage 1 p.ordered) (found_atom c next _ (fixed c.at mark.Atom refl) p.values)
+      with_found c next mark.Atom q p r (is_nodes c.stage p.ordered) (found_atom c next _ (fixed c.at mark.Atom refl) p.values)
   back c next begun r mark.False q p =
-      with_found c next mark.False q p r (eqb-true c.stage 1 p.ordered)
+      with_found c next mark.False q p r (is_nodes c.stage p.ordered)
       (record { node = False; named = refl; values = sym (no_value _ (fixed c.at mark.False refl)); fits = tt })
   back c next begun r mark.Implies q p =
-      with_found c next mark.Implies q p r (eqb-true c.stage 1 p.ordered) (found_implies c next _ (fixed c.at mark.Implies refl) p.values)
+      with_found c next mark.Implies q p r (is_nodes c.stage p.ordered) (found_implies c next _ (fixed c.at mark.Implies refl) p.values)
   back c next begun r mark.And q p =
-      with_found c next mark.And q p r (eqb-true c.stage 1 p.ordered) (record { node = And _; named = refl; values = refl; fits = group_fits c next _ p.values })
+      with_found c next mark.And q p r (is_nodes c.stage p.ordered) (record { node = And _; named = refl; values = refl; fits = group_fits c next _ p.values })
   back c next begun r mark.Or q p =
-      with_found c next mark.Or q p r (eqb-true c.stage 1 p.ordered) (record { node = Or _; named = refl; values = refl; fits = group_fits c next _ p.values })
+      with_found c next mark.Or q p r (is_nodes c.stage p.ordered) (record { node = Or _; named = refl; values = refl; fits = group_fits c next _ p.values })
   back c next begun r mark.Root q p =
       let v = one_value (values_of file c.at mark.Root) (fixed c.at mark.Root refl) in
-      let early : c.stage < 3 = ⊎_elim (λ e. omega (arith, eqb-true c.stage 1 e)) (λ e. omega (arith, eqb-true c.stage 2 e)) (either (eqb c.stage 1) (eqb c.stage 2) p.ordered) in
+      let early : c.stage ≡ stage.Candidates → ⊥ = λ e. false≢true (rw e at p.ordered) in
       with_root c next r v.0 early (ap (λ x. x.stage) p.next_is)
       (rw v.1 at (counts_are c next mark.Root q p))
       (rw v.1 at (left_is c next mark.Root q p))
@@ -202,7 +205,7 @@ module _ (file : List ℕ) (bytes : Below 256 file) where
   module _ (s : Summary) (u : Contents) where
     -- what is left at any cursor from which so many turns lead to the end of the sound file
     abbrev pub Left : ℕ → Type 0
-    Left turns = (c : Cursor) (t : Contents) → read_from file c t turns ≡ sound s u → (c.stage ≡ 0 → ⊥) → length file ≤ c.at + turns → Limited c.counts → Rest c
+    Left turns = (c : Cursor) (t : Contents) → read_from file c t turns ≡ sound s u → at_start c.stage ≡ false → length file ≤ c.at + turns → Limited c.counts → Rest c
 
     pub turn : (turns : ℕ) (c : Cursor) (t : Contents) → c.at < length file → read_from file c t (suc turns) ≡ sound s u → length file ≤ c.at + suc turns → Left turns
         → (next : Cursor) × Passed file c next (mark_at file c.at) (values_of file c.at (mark_at file c.at)) × Rest next
@@ -212,7 +215,7 @@ module _ (file : List ℕ) (bytes : Below 256 file) where
             → read_from file next (joined t (of_next file c)) turns ≡ sound s u → Rest next
         past next p q =
             rest next (joined t (of_next file c)) q
-            (λ z. begun c (mark_at file c.at) _ _ p.ordered (ap (λ x. x.stage) (sym p.next_is) ∙ z))
+            (ap (λ x. at_start x.stage) p.next_is ∙ begun c (mark_at file c.at) _ _ p.ordered)
             (omega (arith, at-is c next _ refl p, end_past file c.at (mark_at file c.at)))
             (rw (counts_are c next _ refl p) p.limited)
 

@@ -20,10 +20,8 @@ fn insert_all(file: &[u8], from: usize, count: usize, words: &mut [u64])
     requires { (from + 4 * count ≤ length file.now) × Each (λ a. a / 64 < length words.old) (numbers file.now from count) }
     ensures { words.new ≡ inserted_all words.old (numbers file.now from count) }
 {
-    let mut i = 0;
-    while i < count {
+    for i in 0..count {
         words::set64::insert(words, record::number(file, from + 4 * i));
-        i += 1;
     }
 }
 
@@ -37,22 +35,20 @@ fn candidate_at(file: &[u8], at: usize, words: &mut [u64]) -> usize
     v.start + 4 * v.count
 }
 
-// A reader at an offset of the file.
-fn open<'a>(file: &'a [u8], offset: usize) -> Reader<'a>
-    ensures { (result.file ≡ file.entry) × (result.offset ≡ offset) }
-{
-    Reader { file, offset }
-}
+impl<'a> Reader<'a> {
+    // A reader at an offset of the file.
+    fn new(file: &'a [u8], offset: usize) -> Reader<'a>
+        ensures { (result.file ≡ file.entry) × (result.offset ≡ offset) }
+    {
+        Reader { file, offset }
+    }
 
-// The atoms of the candidate at the reader, into the set; the reader comes back past the record.
-fn candidate<'a, 'w>(r: Reader<'a>, words: &'w mut [u64]) -> Reader<'a>
-    requires { Fitting r.file.now r.offset (length words.old) }
-    ensures { (result.file ≡ r.entry.file) × (result.offset ≡ record_end r.entry.file.now r.entry.offset Mark.Candidate) × (words.new ≡ inserted_all words.old (values_of r.entry.file.now r.entry.offset Mark.Candidate)) }
-{
-    let end = candidate_at(r.file, r.offset, words);
-    Reader {
-        file: r.file,
-        offset: end,
+    // The atoms of the candidate at the reader, into the set; the reader goes on past the record.
+    fn candidate(&mut self, words: &mut [u64])
+        requires { Fitting self.old.file.now self.old.offset (length words.old) }
+        ensures { (self.new.offset ≡ record_end self.old.file.now self.old.offset Mark.Candidate) × (words.new ≡ inserted_all words.old (values_of self.old.file.now self.old.offset Mark.Candidate)) }
+    {
+        self.offset = candidate_at(self.file, self.offset, words);
     }
 }
 
@@ -61,6 +57,7 @@ pub fn candidate_from(file: &[u8], at: usize, words: &mut [u64]) -> usize
     requires { Fitting file.now at (length words.old) }
     ensures { (result ≡ record_end file.now at Mark.Candidate) × (words.new ≡ inserted_all words.old (values_of file.now at Mark.Candidate)) }
 {
-    let past = candidate(open(file, at), words);
-    past.offset
+    let mut reader = Reader::new(file, at);
+    reader.candidate(words);
+    reader.offset
 }

@@ -4,9 +4,10 @@ use Rattle.std.specs.Prelude.{Ok, Err}
 use Prim.Native.Nat.{ℕ}
 use native.Mathlib.Omega.{arith}
 use mathlib.Core.Path.{◌≡◌, refl, sym, ap, ◌∙◌}
+use mathlib.Core.Bool.{false≢true}
 use mathlib.Core.List.{List, ◌++◌}
 use lib.ListN.{length, length-append}
-use Rattle.theory.specs.Admission.{span_start, admission, admitted}
+use Rattle.theory.specs.Admission.{span_start, admission, admitted as accepted}
 use Rattle.theory.specs.Limits.{limits_of}
 use Rattle.theory.specs.LimitsLaws.{limited_admitted}
 use Rattle.theory.specs.declared.Refusal.{Refusal}
@@ -17,6 +18,7 @@ use Rattle.record.specs.Passed.{counts_after}
 use Rattle.record.specs.Record.{judged}
 use Rattle.record.specs.Contents.{Contents, nothing, joined, of_next}
 use Rattle.record.specs.File.{File, sound, refused, start, theory_file}
+use Rattle.record.specs.declared.Stage.{Stage}
 use Rattle.record.specs.declared.Cursor.{Cursor}
 use Rattle.record.specs.declared.Mark.{Mark}
 use Rattle.record.specs.declared.Summary.{Summary}
@@ -54,7 +56,7 @@ formed_next file c next t e f = go (mark_at file c.at) refl
           roots_long = rw (z, length-append) (omega (arith, s.2, f.roots_long));
           formed = rw z g.0;
           ends = rw z g.1;
-          blank = λ h. absurd (begun c mark _ _ (rw q at p.ordered) h);
+          blank = λ h. absurd (false≢true (sym (begun c mark _ _ (rw q at p.ordered)) ∙ h));
         })
 
 formed_start : FormedAt start nothing
@@ -70,28 +72,28 @@ formed_start =
     }
 
 module _ (file : List ℕ) (s : Summary) (t : Contents) (e : theory_file file ≡ sound s t) where
-  pub formed_whole : (stage : ℕ) × Formed stage s.counts t.nodes t.operands t.roots
+  pub formed_whole : (stage : Stage) × Formed stage s.counts t.nodes t.operands t.roots
   unfolding theory_file FormedAt
   formed_whole =
       let k = read_keeps file FormedAt (formed_next file) s t start nothing (length file) formed_start e in
       (k.0.stage, rw (ap (λ q. q.counts) k.2) at k.1)
 
   -- whatever stands behind the contents in the lent tables
-  pub contents_admitted : (ns os rs : List ℕ) → admission s.counts (t.nodes ++ ns) (t.operands ++ os) (t.roots ++ rs) ≡ admitted
+  pub contents_admitted : (ns os rs : List ℕ) → admission s.counts (t.nodes ++ ns) (t.operands ++ os) (t.roots ++ rs) ≡ accepted
   contents_admitted ns os rs =
       let f = formed_whole.1 in
       formed_admitted s.counts (t.nodes ++ ns) (t.operands ++ os) (t.roots ++ rs)
       (formed_extends s.counts s.counts t.nodes ns t.operands os t.roots rs refl (omega arith) (omega arith) f.nodes_long f.operands_long f.roots_long f.formed
       (λ k l h. absurd (omega arith)) (λ i l h. absurd (omega arith)))
 
-  pub contents_within : limits_of s.counts ≡ admitted
+  pub contents_within : limits_of s.counts ≡ accepted
   contents_within = limited_admitted s.counts (sound-limited file s t e)
 
 -- ---- the tables that `load` leaves
 
 pub record Plannable (s : Summary) (b : Tables) : Type 0 where
-  pub within : limits_of s.counts ≡ admitted
-  pub admitted : admission s.counts b.nodes b.operands b.roots ≡ admitted
+  pub within : limits_of s.counts ≡ accepted
+  pub admitted : admission s.counts b.nodes b.operands b.roots ≡ accepted
 
 pub loaded_sound : (s x : Summary) (t : Contents) (b : Tables) → (loading_sound x t b).answer ≡ Ok s → (x ≡ s) × ((loading_sound x t b).left ≡ holding t b)
 loaded_sound s x t b e = go (loads x t b)

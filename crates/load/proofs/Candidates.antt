@@ -10,9 +10,7 @@ use mathlib.Core.Bool.{true, false≢true}
 use mathlib.Core.List.{List, [], ◌∷◌, ◌++◌, append-nil}
 use lib.ListN.{length, get_or, length-append, get_or-append}
 use lib.Seq.{get_or_at}
-use lib.Dec.{eqb}
-use borrow.Author.Tests.{eqb-true}
-use Rattle.base.specs.Tests.{below_or, either}
+use Rattle.base.specs.Tests.{below_or}
 use Rattle.base.specs.Each.{Each}
 use Rattle.theory.specs.Spans.{all_below_each}
 use Rattle.record.specs.Mark.{mark_at, in_order}
@@ -24,6 +22,7 @@ use Rattle.record.specs.File.{sound, start, theory_file}
 use Rattle.record.specs.declared.Cursor.{Cursor}
 use Rattle.record.specs.declared.Mark.{Mark}
 use Rattle.record.specs.declared.Mark.TheVariants.{Theory, Atom, False, Implies, And, Or, Root, Candidate, Unknown}
+use Rattle.record.specs.declared.Stage.TheVariants as stage
 use Rattle.record.specs.declared.Summary.{Summary}
 use Rattle.record.proofs.Steps.{unless_next, next_passed}
 use Rattle.record.proofs.Judging.{read_keeps}
@@ -56,11 +55,11 @@ next_one file atoms first count cs vs k a e =
 pub record Read (file : List ℕ) (c : Cursor) (cs : List (List ℕ)) : Type 0 where
   pub read : Candidates file c.counts.atoms c.first c.candidates cs
   pub here : c.at ≡ place_of file c.first c.candidates
-  pub before : c.stage < 3 → c.candidates ≡ 0
+  pub before : (c.stage ≡ stage.Candidates → ⊥) → c.candidates ≡ 0
 
 module _ (file : List ℕ) (c : Cursor) (cs : List (List ℕ)) (r : Read file c cs) where
   -- a record that is no candidate comes before all of them
-  other : c.stage < 3 → (next : Cursor) → next.at ≡ next.first → next.candidates ≡ c.candidates → Read file next (cs ++ [])
+  other : (c.stage ≡ stage.Candidates → ⊥) → (next : Cursor) → next.at ≡ next.first → next.candidates ≡ c.candidates → Read file next (cs ++ [])
   unfolding place_of
   other h next p q =
       let z = r.before h in
@@ -76,15 +75,14 @@ module _ (file : List ℕ) (c : Cursor) (cs : List (List ℕ)) (r : Read file c 
         → vs ≡ values_of file c.at mark
         → Read file (passed c mark (counts_after c.counts mark vs) (record_end file c.at mark)) (cs ++ (of_record c.counts.operands mark vs).candidates)
     unfolding judged_values place_of
-    read_next Theory o j w e = other (omega (arith, eqb-true c.stage 0 o)) (passed c Theory (counts_after c.counts Theory vs) (record_end file c.at Theory)) refl refl
-    read_next Atom o j w e = other (omega (arith, eqb-true c.stage 1 o)) (passed c Atom (counts_after c.counts Atom vs) (record_end file c.at Atom)) refl refl
-    read_next False o j w e = other (omega (arith, eqb-true c.stage 1 o)) (passed c False (counts_after c.counts False vs) (record_end file c.at False)) refl refl
-    read_next Implies o j w e = other (omega (arith, eqb-true c.stage 1 o)) (passed c Implies (counts_after c.counts Implies vs) (record_end file c.at Implies)) refl refl
-    read_next And o j w e = other (omega (arith, eqb-true c.stage 1 o)) (passed c And (counts_after c.counts And vs) (record_end file c.at And)) refl refl
-    read_next Or o j w e = other (omega (arith, eqb-true c.stage 1 o)) (passed c Or (counts_after c.counts Or vs) (record_end file c.at Or)) refl refl
+    read_next Theory o j w e = other (λ q. false≢true (rw q at o)) (passed c Theory (counts_after c.counts Theory vs) (record_end file c.at Theory)) refl refl
+    read_next Atom o j w e = other (λ q. false≢true (rw q at o)) (passed c Atom (counts_after c.counts Atom vs) (record_end file c.at Atom)) refl refl
+    read_next False o j w e = other (λ q. false≢true (rw q at o)) (passed c False (counts_after c.counts False vs) (record_end file c.at False)) refl refl
+    read_next Implies o j w e = other (λ q. false≢true (rw q at o)) (passed c Implies (counts_after c.counts Implies vs) (record_end file c.at Implies)) refl refl
+    read_next And o j w e = other (λ q. false≢true (rw q at o)) (passed c And (counts_after c.counts And vs) (record_end file c.at And)) refl refl
+    read_next Or o j w e = other (λ q. false≢true (rw q at o)) (passed c Or (counts_after c.counts Or vs) (record_end file c.at Or)) refl refl
     read_next Root o j w e =
-        other (⊎_elim (λ q. omega (arith, eqb-true c.stage 1 q)) (λ q. omega (arith, eqb-true c.stage 2 q)) (either (eqb c.stage 1) (eqb c.stage 2) o))
-        (passed c Root (counts_after c.counts Root vs) (record_end file c.at Root)) refl refl
+        other (λ q. false≢true (rw q at o)) (passed c Root (counts_after c.counts Root vs) (record_end file c.at Root)) refl refl
     read_next Candidate o j w e =
         record {
           read =
@@ -92,7 +90,7 @@ module _ (file : List ℕ) (c : Cursor) (cs : List (List ℕ)) (r : Read file c 
               (rw (← r.here) (record { whole = w; below = rw e at (unless_next _ _ _ n j).0 }))
               (rw (← r.here) e);
           here = rw (add-one, ← r.here) refl;
-          before = λ l. absurd (omega arith);
+          before = λ l. absurd (l refl);
         }
     read_next Unknown o j w e = absurd (false≢true o)
 

@@ -11,7 +11,7 @@ use mathlib.Core.List.{List, [], ◌∷◌, ◌++◌, append-nil}
 use lib.Dec.{eqb}
 use lib.ListN.{length, get_or, drop, length-drop, get_or-append}
 use lib.Seq.{get_or-append-add, drop-append-le, take-append-le, drop-append_seam, take-length}
-use borrow.Author.Tests.{eqb-true, eqb-false, not-true}
+use borrow.Author.Tests.{eqb-false, not-true}
 use Rattle.base.specs.Tests.{below_or}
 use Rattle.base.specs.Each.{each_at}
 use Rattle.theory.specs.Node.{decoded, node_at, span}
@@ -21,6 +21,8 @@ use Rattle.theory.specs.Spans.{all_below_each}
 use Rattle.theory.specs.declared.Counts.{Counts}
 use Rattle.theory.specs.declared.Node.{Node}
 use Rattle.theory.specs.declared.Node.TheVariants as node
+use Rattle.record.specs.Stage.{at_start}
+use Rattle.record.specs.declared.Stage.{Stage}
 use Rattle.record.specs.Mark.{in_order}
 use Rattle.record.specs.Layout.{arity}
 use Rattle.record.specs.Passed.{more, counts_after}
@@ -128,13 +130,13 @@ group_formed t os vs lo some below =
     go false e = omega (arith, eqb-false (length vs) 0 e)
 
 -- what holds of the tables of the records read so far
-pub record Formed (stage : ℕ) (t : Counts) (ns os rs : List ℕ) : Type 0 where
+pub record Formed (stage : Stage) (t : Counts) (ns os rs : List ℕ) : Type 0 where
   pub nodes_long : length ns ≡ 3 * t.nodes
   pub operands_long : length os ≡ t.operands
   pub roots_long : length rs ≡ t.roots
   pub formed : WellFormed t ns os rs
   pub ends : span_start ns t.nodes ≡ t.operands
-  pub blank : stage ≡ 0 → (t.nodes ≡ 0) × (t.roots ≡ 0)
+  pub blank : at_start stage ≡ true → (t.nodes ≡ 0) × (t.roots ≡ 0)
 
 module _ (c n : Cursor) (vs ns os rs : List ℕ) (f : Formed c.stage c.counts ns os rs) where
   -- the tables with what the record adds, and where its last span ends
@@ -165,7 +167,7 @@ module _ (c n : Cursor) (vs ns os rs : List ℕ) (f : Formed c.stage c.counts ns
   pub record_formed : (mark : Mark) → in_order mark c.stage ≡ true → judged_values c mark vs (Ok n) ≡ Ok n → arity mark ≤ length vs → Added mark
   unfolding judged_values
   record_formed Theory o e m =
-      let z = f.blank (eqb-true c.stage 0 o) in
+      let z = f.blank o in
       (record { node = λ k h. absurd (omega (arith, z.0)); root = λ i h. absurd (omega (arith, z.1)) }, same_ends c.counts.nodes refl)
   record_formed Atom o e m =
       with_node_lem 0 (get_or vs 0 0) 0 []

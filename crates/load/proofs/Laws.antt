@@ -1,12 +1,14 @@
 -- What each function that writes leaves, said by the definitions.
 -- Assumes nothing.
-use Prim.Native.Nat.{ℕ, suc, ◌+◌, ◌*◌, ◌<◌, ◌≤◌}
+use Prim.Native.Nat.{ℕ, ◌+◌, ◌*◌, ◌<◌, ◌≤◌}
 use native.Mathlib.Numerals.{add-one}
 use native.Mathlib.Omega.{arith}
 use mathlib.Core.Path.{◌≡◌, refl, sym, ap, ◌∙◌}
-use mathlib.Core.List.{List, [], ◌∷◌}
+use mathlib.Core.List.{List, []}
 use lib.ListN.{length, set}
-use lib.Seq.{sets-eq, paste, paste-zero, paste-suc, take_all}
+use borrow.Rule.Slice.PartMut.{put_mid}
+use Rattle.std.proofs.lemmas.Slice.{put_mid-paste}
+use lib.Seq.{paste, paste-zero, paste-suc, take_all, take-length}
 use Rattle.theory.specs.declared.Counts.{Counts}
 use Rattle.record.specs.Number.{number, numbers}
 use Rattle.record.specs.Layout.{values_of}
@@ -27,12 +29,10 @@ pub placed_none : (xs : List ℕ) (i : ℕ) → xs ≡ placed xs i []
 unfolding placed
 placed_none xs i = paste-zero xs i []
 
-pub placed_three : (xs : List ℕ) (i k a b : ℕ) → i + 3 ≤ length xs → set (set (set xs i k) (i + 1) a) (i + 2) b ≡ placed xs i (k ∷ a ∷ b ∷ [])
+-- a part that these were copied into
+pub placed_part : (xs ys : List ℕ) (i n : ℕ) → n ≡ length ys → put_mid i n xs ys ≡ placed xs i ys
 unfolding placed
-placed_three xs i k a b h =
-    let one : i + 1 ≡ suc i = omega arith in
-    let two : i + 2 ≡ suc (suc i) = omega arith in
-    rw (one, two) (sets-eq (k ∷ a ∷ b ∷ []) xs i h)
+placed_part xs ys i n e = put_mid-paste i n xs ys ys n refl refl e ∙ rw (e, take-length)
 
 -- a loop that copies the numbers of a file into a table
 module _ (file : List ℕ) (from count : ℕ) (xs ys : List ℕ) (at i : ℕ) (so_far : ys ≡ paste xs at (numbers file from count) i) where

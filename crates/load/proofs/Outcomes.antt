@@ -1,6 +1,6 @@
 -- What the definition of `load` gives of a sound file, at each exit.
 -- Assumes nothing.
-use Rattle.std.specs.Prelude.{Ok, Err}
+use Rattle.std.specs.Prelude.{Result, Ok, Err}
 use Prim.Native.Nat.{ℕ, ◌*◌, ◌<◌, ◌≤◌}
 use mathlib.Core.Path.{◌≡◌, sym, ap}
 use mathlib.Core.List.{List}
@@ -16,9 +16,10 @@ use Rattle.load.specs.Store.{stored_from}
 use Rattle.record.proofs.Judging.{contents_of, sound-is, refused_is}
 use Rattle.load.proofs.Storing.{tables_hold}
 
-pub not_sound : (file : List ℕ) (b : Tables) (r : Refusal) → verdict (theory_file file) ≡ Err r → outcome (Err r) b ≡ loading (theory_file file) b
+pub not_sound : (file : List ℕ) (b : Tables) (answer : Result Summary Refusal) (r : Refusal) → answer ≡ Err r → verdict (theory_file file) ≡ Err r
+    → outcome answer b ≡ loading (theory_file file) b
 unfolding loading
-not_sound file b r e = rw (refused_is (theory_file file) r e)
+not_sound file b answer r a e = rw (a, refused_is (theory_file file) r e)
 
 module _ (file : List ℕ) (s : Summary) (b : Tables) (e : verdict (theory_file file) ≡ Ok s) where
   whole : loading_sound s (contents_of (theory_file file)) b ≡ loading (theory_file file) b

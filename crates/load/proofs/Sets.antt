@@ -2,11 +2,12 @@
 -- Assumes nothing.
 use Prim.Native.Nat.{ℕ, ◌+◌, ◌/◌, ◌<◌, ◌≤◌}
 use native.Mathlib.Omega.{arith}
-use native.Mathlib.Nat.{div-add-mod', mod-lt}
+use native.Mathlib.Nat.{div-add-mod', mod-lt, min-eq_left}
 use mathlib.Core.Path.{◌≡◌, refl, ◌∙◌}
 use mathlib.Core.Bool.{Bool, true, false, ◌||◌}
 use mathlib.Core.List.{List, [], ◌∷◌, ◌++◌}
-use lib.ListN.{length, drop, replicate, length-replicate, get_or-append}
+use lib.ListN.{length, take, drop, replicate, length-replicate, length-append, length-take, length-drop, get_or-append}
+use Rattle.std.specs.Int.{div_ceil}
 use lib.Seq.{set-append_left}
 use lib.Dec.{eqb}
 use Rattle.base.specs.Tests.{or-false}
@@ -35,6 +36,18 @@ inserted_all-front xs ys (a ∷ vs) h =
     rw (inserted-front xs ys a h.0)
     (inserted_all-front (inserted 64 xs a) ys vs
     (each_map (λ b. b / 64 < length xs) (λ b. b / 64 < length (inserted 64 xs a)) vs (λ b l. rw (length_inserted 64 xs a) l) h.1))
+
+-- the front of a buffer, cleared
+module _ (atoms n : ℕ) (ws zeros : List ℕ) (so_many : n ≡ div_ceil atoms 64) (room : word_count atoms ≤ length ws) (filled : zeros ≡ replicate (length (take n ws)) 0) where
+  words_taken : n ≡ word_count atoms
+  words_taken =
+      omega (arith, so_many, div-add-mod' atoms 64, mod-lt atoms {m = 64} (omega arith), div-add-mod' (atoms + 63) 64, mod-lt (atoms + 63) {m = 64} (omega arith))
+
+  pub cleared-front : zeros ++ drop n ws ≡ replicate (word_count atoms) 0 ++ drop (word_count atoms) ws
+  cleared-front = rw (filled, length-take, words_taken, min-eq_left room)
+
+  pub length-cleared : length (zeros ++ drop n ws) ≡ length ws
+  length-cleared = rw (length-append, length-drop, filled, length-replicate, length-take, words_taken) (omega arith)
 
 -- a cleared front with the atoms put in
 pub candidate-front : (atoms : ℕ) (vs ws cleared filled : List ℕ) → all_below atoms vs ≡ true → cleared ≡ replicate (word_count atoms) 0 ++ drop (word_count atoms) ws

@@ -12,6 +12,7 @@ use lib.Seq.{take-append_seam, drop-append-add, drop-drop}
 use borrow.Author.Tests.{eq-eqb, ne_eqb}
 use Rattle.theory.specs.Limits.{Lent}
 use Rattle.theory.specs.declared.Refusal.TheVariants.{BadKind}
+use Rattle.record.specs.Stage.{at_start}
 use Rattle.record.specs.Mark.{mark_at}
 use Rattle.record.specs.Number.{numbers}
 use Rattle.record.specs.Layout.{values_start, value_count, record_end, values_of}
@@ -53,7 +54,7 @@ lent_less file c next x y z e l =
 
 ended-lent : (c : Cursor) (t : Contents) (x y z : ℕ) → Fits (verdict (ended c t)) x y z → Lent c.counts x y z
 unfolding ended verdict
-ended-lent c t x y z = go (eqb c.stage 0)
+ended-lent c t x y z = go (at_start c.stage)
   where
     go : (b : Bool) → Fits (verdict (cond b (refused (BadKind c.records)) (sound (summary c) t))) x y z → Lent c.counts x y z
     go true f = absurd f
@@ -180,7 +181,7 @@ stored-holding file c t b z =
 
 ended_contents : (c : Cursor) (t u : Contents) (s : Summary) → ended c t ≡ sound s u → t ≡ u
 unfolding ended
-ended_contents c t u s = go (eqb c.stage 0)
+ended_contents c t u s = go (at_start c.stage)
   where
     go : (b : Bool) → cond b (refused (BadKind c.records)) (sound (summary c) t) ≡ sound s u → t ≡ u
     go true e = let z : ◌≡◌ {A = ℕ} 0 1 = cc in absurd (omega arith)

@@ -16,6 +16,7 @@ use Rattle.theory.specs.WellFormed.{NodeFormed}
 use Rattle.theory.specs.declared.Counts.{Counts}
 use Rattle.theory.specs.declared.Node.{Node}
 use Rattle.theory.specs.declared.Node.TheVariants.{Atom, False, Implies, And, Or, Unknown}
+use Rattle.record.specs.declared.Stage.{Stage}
 use Rattle.record.specs.Contents.{Contents}
 use Rattle.record.specs.File.{sound, theory_file}
 use Rattle.record.specs.declared.Summary.{Summary}
@@ -26,7 +27,7 @@ use Rattle.load.proofs.Admitted.{formed_whole, loaded_sound}
 
 -- ---- with other words behind the tables
 
-module _ (stage : ℕ) (t : Counts) (ns xs os ys rs : List ℕ) (f : Formed stage t ns os rs) where
+module _ (stage : Stage) (t : Counts) (ns xs os ys rs : List ℕ) (f : Formed stage t ns os rs) where
   node_at_lem : (k : ℕ) → k < t.nodes → node_at (ns ++ xs) k ≡ node_at ns k
   node_at_lem = node_front t t ns xs os ys rs rs refl (omega arith) (omega arith) f.nodes_long f.operands_long f.roots_long
 

@@ -1,23 +1,21 @@
 -- The second pass over a sound file: the words of each record put in their place.
 -- Assumes nothing.
-use Rattle.std.specs.Prelude.{ℕ, zero, suc, ◌+◌, ◌*◌, cond, List, [], ◌∷◌, ◌++◌, eqb, length, take, drop, Ok, Err}
+use Rattle.std.specs.Prelude.{ℕ, zero, suc, ◌+◌, ◌*◌, cond, List, [], ◌++◌, eqb, length, take, drop, Option, None, Some, Ok, Err}
 use Rattle.record.specs.Record.{judged}
 use Rattle.record.specs.Contents.{of_next}
 use Rattle.record.specs.declared.Cursor.{Cursor}
 use Rattle.record.specs.declared.Mark.{Mark}
 use Rattle.record.specs.declared.Mark.TheVariants.{Theory, Atom, False, Implies, And, Or, Root, Candidate, Unknown}
 use Rattle.load.specs.Tables.{Tables}
-use Rattle.load.specs.declared.Added.{Added}
-use Rattle.load.specs.declared.Added.TheVariants.{Nothing, Node}
 
 -- xs with ys from place i on
 unfoldable pub placed : List ℕ → ℕ → List ℕ → List ℕ
 placed xs i ys = take i xs ++ ys ++ drop (i + length ys) xs
 
 -- the words of a node, or of a record that is none
-abbrev pub words_of : Added → List ℕ
-words_of Nothing = []
-words_of (Node kind a b) = kind ∷ a ∷ b ∷ []
+abbrev pub words_of : Option (List ℕ) → List ℕ
+words_of None = []
+words_of (Some ws) = ws
 
 -- how many values of a record go into the operand table, and into the list of roots
 abbrev pub operand_count : Mark → ℕ → ℕ

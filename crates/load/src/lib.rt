@@ -15,21 +15,8 @@ ghost use Rattle.load.specs.Store.{placed, words_of, operand_count, root_count, 
 ghost use Rattle.load.specs.Candidate.{word_count, candidate_words, CandidateAt};
 ghost use Rattle.load.specs.Room.{Fits, Stands};
 
-use record::{Cursor, Judged, Mark, Summary, Values};
+use record::{Cursor, Mark, Summary, Values};
 use theory::Refusal;
-
-#[derive(Clone, Copy)]
-pub enum Loaded {
-    Sound(Summary),
-    Refused(Refusal),
-}
-
-// What a record adds to the node table.
-#[derive(Clone, Copy)]
-pub enum Added {
-    Nothing,
-    Node(u32, u32, u32),
-}
 
 fn number32(file: &[u8], at: usize) -> u32
     requires { at + 4 ≤ length file.now }
@@ -38,32 +25,27 @@ fn number32(file: &[u8], at: usize) -> u32
     record::number(file, at) as u32
 }
 
-// The words of a node; a span begins at `begin`.
-fn node_words(file: &[u8], begin: usize, mark: Mark, v: Values) -> Added
+// The words of a node, of a record that is one; a span begins at `begin`.
+fn node_words(file: &[u8], begin: usize, mark: Mark, v: Values) -> Option<[u32; 3]>
     requires { (v.start + 4 * v.count ≤ length file.now) × (arity mark ≤ v.count) × (v.count < 4294967296) × (begin < 4294967296) }
     ensures { words_of result ≡ (of_record begin mark (numbers file.now v.start v.count)).nodes }
 {
     match mark {
-        Mark::Theory => Added::Nothing,
-        Mark::Atom => Added::Node(0, number32(file, v.start), 0),
-        Mark::False => Added::Node(1, 0, 0),
-        Mark::Implies => Added::Node(2, number32(file, v.start), number32(file, v.start + 4)),
-        Mark::And => Added::Node(3, begin as u32, v.count as u32),
-        Mark::Or => Added::Node(4, begin as u32, v.count as u32),
-        Mark::Root => Added::Nothing,
-        Mark::Candidate => Added::Nothing,
-        Mark::Unknown => Added::Nothing,
+        Mark::Atom => Some([0, number32(file, v.start), 0]),
+        Mark::False => Some([1, 0, 0]),
+        Mark::Implies => Some([2, number32(file, v.start), number32(file, v.start + 4)]),
+        Mark::And => Some([3, begin as u32, v.count as u32]),
+        Mark::Or => Some([4, begin as u32, v.count as u32]),
+        Mark::Theory | Mark::Root | Mark::Candidate | Mark::Unknown => None,
     }
 }
 
-fn put(nodes: &mut [u32], at: usize, added: Added)
+fn put(nodes: &mut [u32], at: usize, added: Option<[u32; 3]>)
     requires { at + length (words_of added) ≤ length nodes.old }
     ensures { nodes.new ≡ placed nodes.old at (words_of added) }
 {
-    if let Added::Node(kind, a, b) = added {
-        nodes[at] = kind;
-        nodes[at + 1] = a;
-        nodes[at + 2] = b;
+    if let Some(words) = added {
+        nodes[at..at + 3].copy_from_slice(&words);
     }
 }
 
@@ -72,10 +54,8 @@ fn copy(file: &[u8], from: usize, count: usize, table: &mut [u32], at: usize)
     requires { (from + 4 * count ≤ length file.now) × (at + count ≤ length table.old) }
     ensures { table.new ≡ placed table.old at (numbers file.now from count) }
 {
-    let mut i = 0;
-    while i < count {
+    for i in 0..count {
         table[at + i] = number32(file, from + 4 * i);
-        i += 1;
     }
 }
 
@@ -84,15 +64,8 @@ fn operand_count(mark: Mark, count: usize) -> usize
     ensures { result ≡ operand_count mark count }
 {
     match mark {
-        Mark::Theory => 0,
-        Mark::Atom => 0,
-        Mark::False => 0,
-        Mark::Implies => 0,
-        Mark::And => count,
-        Mark::Or => count,
-        Mark::Root => 0,
-        Mark::Candidate => 0,
-        Mark::Unknown => 0,
+        Mark::And | Mark::Or => count,
+        _ => 0,
     }
 }
 
@@ -101,15 +74,8 @@ fn root_count(mark: Mark, count: usize) -> usize
     ensures { result ≡ root_count mark count }
 {
     match mark {
-        Mark::Theory => 0,
-        Mark::Atom => 0,
-        Mark::False => 0,
-        Mark::Implies => 0,
-        Mark::And => 0,
-        Mark::Or => 0,
         Mark::Root => count,
-        Mark::Candidate => 0,
-        Mark::Unknown => 0,
+        _ => 0,
     }
 }
 
@@ -126,20 +92,23 @@ fn store(
     requires { Stands file.now c mark v × Limited c.counts × Lent (counts_after c.counts mark (numbers file.now v.start v.count)) (length nodes.old) (length operands.old) (length roots.old) }
     ensures { tables nodes.new operands.new roots.new ≡ stored file.now c (tables nodes.old operands.old roots.old) }
 {
-    let o = c.counts.operands;
-    let r = c.counts.roots;
-    let added = node_words(file, o, mark, v);
-    put(nodes, 3 * c.counts.nodes, added);
-    copy(file, v.start, operand_count(mark, v.count), operands, o);
-    copy(file, v.start, root_count(mark, v.count), roots, r);
+    let t = c.counts;
+    put(nodes, 3 * t.nodes, node_words(file, t.operands, mark, v));
+    copy(
+        file,
+        v.start,
+        operand_count(mark, v.count),
+        operands,
+        t.operands,
+    );
+    copy(file, v.start, root_count(mark, v.count), roots, t.roots);
 }
 
 fn next_cursor(file: &[u8], c: Cursor, mark: Mark, v: Values) -> Cursor
     requires { Within (length file.now) c × Stands file.now c mark v }
     ensures { result ≡ passed c mark (counts_after c.counts mark (numbers file.now v.start v.count)) (v.start + 4 * v.count) }
 {
-    let old = c.counts;
-    let counts = record::counts_after(file, old, mark, v);
+    let counts = record::counts_after(file, c.counts, mark, v);
     record::passed(c, mark, counts, v.start + 4 * v.count)
 }
 
@@ -150,9 +119,8 @@ fn store_all(file: &[u8], nodes: &mut [u32], operands: &mut [u32], roots: &mut [
 {
     let mut c = record::start();
     while c.at < file.len() {
-        let at = c.at;
-        let mark = record::mark_at(file, at);
-        let v = record::values_of(file, at, mark);
+        let mark = record::mark_at(file, c.at);
+        let v = record::values_of(file, c.at, mark);
         store(file, c, mark, v, nodes, operands, roots);
         c = next_cursor(file, c, mark, v);
     }
@@ -183,25 +151,16 @@ pub fn load_sound(
 }
 
 // The tables of the file, written to the front of buffers 1, 2 and 3; or why not, with nothing altered.
-pub fn load(file: &[u8], nodes: &mut [u32], operands: &mut [u32], roots: &mut [u32]) -> Result<Summary, Refusal>
+pub fn load(
+    file: &[u8],
+    nodes: &mut [u32],
+    operands: &mut [u32],
+    roots: &mut [u32],
+) -> Result<Summary, Refusal>
     ensures { outcome result (tables nodes.new operands.new roots.new) ≡ loading (theory_file file.now) (tables nodes.old operands.old roots.old) }
 {
-    match record::judge(file) {
-        Ok(s) => load_sound(file, s, nodes, operands, roots),
-        Err(r) => Err(r),
-    }
-}
-
-// The first n words are 0.
-fn clear(words: &mut [u64], n: usize)
-    requires { n ≤ length words.old }
-    ensures { words.new ≡ replicate n 0 ++ drop n words.old }
-{
-    let mut i = 0;
-    while i < n {
-        words[i] = 0;
-        i += 1;
-    }
+    let s = record::judge(file)?;
+    load_sound(file, s, nodes, operands, roots)
 }
 
 // The candidate that begins at `at`, as a set of atoms, by the reader of crate `file_reader`; answers where the next record begins.
@@ -210,6 +169,6 @@ pub fn candidate(file: &[u8], at: usize, atoms: usize, words: &mut [u64]) -> usi
     requires { CandidateAt file.now atoms at × (atoms ≤ 65536) × (word_count atoms ≤ length words.old) }
     ensures { (result ≡ record_end file.now at Mark.Candidate) × (words.new ≡ candidate_words atoms (values_of file.now at Mark.Candidate) ++ drop (word_count atoms) words.old) }
 {
-    clear(words, (atoms + 63) / 64);
+    words[..atoms.div_ceil(64)].fill(0);
     file_reader::candidate_from(file, at, words)
 }

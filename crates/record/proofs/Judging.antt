@@ -12,6 +12,7 @@ use borrow.Author.Tests.{eq-eqb, ne_eqb}
 use Rattle.theory.specs.declared.Refusal.{Refusal}
 use Rattle.theory.specs.declared.Refusal.TheVariants.{BadKind}
 use Rattle.theory.specs.Limits.{Limited}
+use Rattle.record.specs.Stage.{at_start}
 use Rattle.record.specs.Record.{judged}
 use Rattle.record.specs.Contents.{Contents, nothing, joined, of_next}
 use Rattle.record.specs.File.{File, sound, refused, summary, ended, read_from, start, theory_file, verdict}
@@ -40,7 +41,7 @@ module _ (file : List ℕ) (c : Cursor) (t : Contents) where
 
 verdict-ended : (c : Cursor) (t u : Contents) → verdict (ended c t) ≡ verdict (ended c u)
 unfolding verdict ended
-verdict-ended c t u = go (eqb c.stage 0)
+verdict-ended c t u = go (at_start c.stage)
   where
     go : (b : Bool) → verdict (cond b (refused (BadKind c.records)) (sound (summary c) t)) ≡ verdict (cond b (refused (BadKind c.records)) (sound (summary c) u))
     go true = refl
@@ -83,7 +84,7 @@ module _ (file : List ℕ) (P : Cursor → Contents → Type 0)
     (step : (c next : Cursor) (t : Contents) → judged file c ≡ Ok next → P c t → P next (joined t (of_next file c))) (s : Summary) (u : Contents) where
   ended_keeps : (c : Cursor) (t : Contents) → P c t → ended c t ≡ sound s u → (e : Cursor) × P e u × (summary e ≡ s)
   unfolding ended
-  ended_keeps c t p = go (eqb c.stage 0)
+  ended_keeps c t p = go (at_start c.stage)
     where
       go : (b : Bool) → cond b (refused (BadKind c.records)) (sound (summary c) t) ≡ sound s u → (e : Cursor) × P e u × (summary e ≡ s)
       go true e = let z : ◌≡◌ {A = ℕ} 0 1 = cc in absurd (omega arith)

@@ -1,6 +1,6 @@
 -- A file that is not sound is refused with a number from 1 to 8.
 -- Assumes nothing.
-use Rattle.std.specs.Prelude.{Result, Ok, Err}
+use Rattle.std.specs.Prelude.{Result, Ok, Err, is_ok}
 use Prim.Native.Nat.{ℕ, zero, suc, ◌+◌, ◌≤◌}
 use native.Mathlib.Omega.{arith}
 use mathlib.Core.Path.{◌≡◌, refl, sym, subst}
@@ -13,11 +13,12 @@ use Rattle.theory.specs.Limits.{limits_of}
 use Rattle.theory.specs.Refusal.{told, number_of}
 use Rattle.theory.specs.declared.Refusal.{Refusal}
 use Rattle.theory.specs.declared.Refusal.TheVariants.{BadKind, CutRecord, PastLimit, BadAtom, BadOperand, NoOperands, BadRoot, NotRising}
+use Rattle.record.specs.Stage.{at_start}
 use Rattle.record.specs.Mark.{mark_at, in_order}
 use Rattle.record.specs.Rising.{rising}
 use Rattle.record.specs.Layout.{record_end, values_of}
 use Rattle.record.specs.Passed.{counts_after}
-use Rattle.record.specs.Record.{unless, is_admitted, judged_group, judged_values, judged_whole, judged_marked, judged}
+use Rattle.record.specs.Record.{unless, judged_group, judged_values, judged_whole, judged_marked, judged}
 use Rattle.record.specs.Contents.{Contents, nothing, joined, of_next}
 use Rattle.record.specs.File.{sound, refused, summary, ended, read_from, start, theory_file}
 use Rattle.record.specs.declared.Cursor.{Cursor}
@@ -59,14 +60,14 @@ module _ (r : Refusal) where
       by_test (leb (c.at + 2) (length file)) (CutRecord c.records) _ (omega arith)
       (by_test (in_order mark c.stage) (BadKind c.records) _ (omega arith)
       (by_test (leb (record_end file c.at mark) (length file)) (CutRecord c.records) _ (omega arith)
-      (by_test (is_admitted (limits_of (counts_after c.counts mark vs))) (PastLimit c.records) _ (omega arith)
+      (by_test (is_ok (limits_of (counts_after c.counts mark vs))) (PastLimit c.records) _ (omega arith)
       (by_values c mark vs _ (λ e. absurd (refused_next r _ (sym e)))))))
 
   -- ---- the file
 
   by_end : (c : Cursor) (t : Contents) → ended c t ≡ refused r → number_of r ≤ 8
   unfolding ended told
-  by_end c t = go (eqb c.stage 0)
+  by_end c t = go (at_start c.stage)
     where
       go : (b : Bool) → cond b (refused (BadKind c.records)) (sound (summary c) t) ≡ refused r → number_of r ≤ 8
       go true e = let q : BadKind c.records ≡ r = cc in subst (λ (x : Refusal). number_of x ≤ 8) q (omega arith)

@@ -1,6 +1,6 @@
 -- What the definition of one record gives at each exit, and what is known of the cursor past a record.
 -- Assumes nothing.
-use Rattle.std.specs.Prelude.{Result, Ok, Err}
+use Rattle.std.specs.Prelude.{Result, Ok, Err, is_ok}
 use Prim.Native.Nat.{ℕ, ◌+◌, ◌-◌, ◌*◌, ◌<◌, ◌≤◌}
 use native.Mathlib.Omega.{arith}
 use mathlib.Core.Path.{◌≡◌, refl}
@@ -13,11 +13,12 @@ use Rattle.theory.specs.Limits.{limits_of, Limited}
 use Rattle.theory.specs.declared.Counts.{Counts}
 use Rattle.theory.specs.declared.Refusal.{Refusal}
 use Rattle.theory.specs.declared.Refusal.TheVariants.{BadKind, CutRecord, PastLimit}
+use Rattle.record.specs.Stage.{at_start}
 use Rattle.record.specs.Mark.{mark_at, in_order}
 use Rattle.record.specs.Number.{numbers}
 use Rattle.record.specs.Layout.{counted, arity, value_count, values_start, record_end, values_of}
 use Rattle.record.specs.Passed.{counts_after, passed}
-use Rattle.record.specs.Record.{unless, is_admitted, judged_group, judged_values, judged_whole, judged_marked, judged}
+use Rattle.record.specs.Record.{unless, judged_group, judged_values, judged_whole, judged_marked, judged}
 use Rattle.record.specs.File.{start}
 use Rattle.record.specs.Bounds.{Within}
 use Rattle.record.specs.declared.Cursor.{Cursor}
@@ -52,12 +53,12 @@ module _ (file : List ℕ) (c : Cursor) where
 
     module _ (start count : ℕ) (counts : Counts) (limits : Admission) (at-start : start ≡ values_start file c.at mark) (so_many : count ≡ value_count file c.at mark)
         (counted-so : counts ≡ counts_after c.counts mark (numbers file start count)) (tried : limits ≡ limits_of counts) where
-      pub past_limit : (x : Refusal) → limits ≡ Err x
+      pub past_limit : is_ok limits ≡ false
           → Err (PastLimit c.records) ≡ judged_whole c mark (values_of file c.at mark) (record_end file c.at mark)
       unfolding judged_whole unless values_of
-      past_limit x e = rw (← at-start, ← so_many, ← counted-so, ← tried, e)
+      past_limit e = rw (← at-start, ← so_many, ← counted-so, ← tried, e)
 
-      pub within_limits : (next : Cursor) (r : Result Cursor Refusal) → limits ≡ admitted → next ≡ passed c mark counts (start + 4 * count)
+      pub within_limits : (next : Cursor) (r : Result Cursor Refusal) → is_ok limits ≡ true → next ≡ passed c mark counts (start + 4 * count)
           → r ≡ judged_values c mark (numbers file start count) (Ok next)
           → r ≡ judged_whole c mark (values_of file c.at mark) (record_end file c.at mark)
       unfolding judged_whole unless values_of record_end
@@ -119,13 +120,13 @@ pub record Passed (file : List ℕ) (c next : Cursor) (mark : Mark) (vs : List �
   pub values : judged_values c mark vs (Ok next) ≡ Ok next
   pub next_is : next ≡ passed c mark (counts_after c.counts mark vs) (record_end file c.at mark)
 
-admitted_limited : (t : Counts) → is_admitted (limits_of t) ≡ true → Limited t
+admitted_limited : (t : Counts) → is_ok (limits_of t) ≡ true → Limited t
 unfolding limits_of
 admitted_limited t e =
     go (ltb 65536 t.atoms) refl (ltb 262144 t.nodes) refl (ltb 1048576 t.operands) refl (ltb 262144 t.roots) refl e
   where
     go : (a : Bool) → ltb 65536 t.atoms ≡ a → (n : Bool) → ltb 262144 t.nodes ≡ n → (o : Bool) → ltb 1048576 t.operands ≡ o → (r : Bool) → ltb 262144 t.roots ≡ r
-        → is_admitted (cond a (Err (PastLimit 0)) (cond n (Err (PastLimit 1)) (cond o (Err (PastLimit 2)) (cond r (Err (PastLimit 3)) admitted)))) ≡ true
+        → is_ok (cond a (Err (PastLimit 0)) (cond n (Err (PastLimit 1)) (cond o (Err (PastLimit 2)) (cond r (Err (PastLimit 3)) admitted)))) ≡ true
         → Limited t
     go true ea n en o eo r er q = absurd (false≢true q)
     go false ea true en o eo r er q = absurd (false≢true q)
@@ -163,16 +164,16 @@ passed_fields c Candidate t end = (refl, refl, refl, omega arith)
 passed_fields c Unknown t end = (refl, refl, refl, omega arith)
 
 -- after a record in order something was read
-pub begun : (c : Cursor) (mark : Mark) (t : Counts) (end : ℕ) → in_order mark c.stage ≡ true → (passed c mark t end).stage ≡ 0 → ⊥
-begun c Theory t end o e = omega arith
-begun c Atom t end o e = omega arith
-begun c False t end o e = omega arith
-begun c Implies t end o e = omega arith
-begun c And t end o e = omega arith
-begun c Or t end o e = omega arith
-begun c Root t end o e = omega arith
-begun c Candidate t end o e = omega arith
-begun c Unknown t end o e = false≢true o
+pub begun : (c : Cursor) (mark : Mark) (t : Counts) (end : ℕ) → in_order mark c.stage ≡ true → at_start (passed c mark t end).stage ≡ false
+begun c Theory t end o = refl
+begun c Atom t end o = refl
+begun c False t end o = refl
+begun c Implies t end o = refl
+begun c And t end o = refl
+begun c Or t end o = refl
+begun c Root t end o = refl
+begun c Candidate t end o = refl
+begun c Unknown t end o = absurd (false≢true o)
 
 -- the cursor moves on and keeps its bounds
 pub next_within : (file : List ℕ) (c next : Cursor) → judged file c ≡ Ok next → Within (length file) c

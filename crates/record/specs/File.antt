@@ -3,8 +3,10 @@
 use Rattle.std.specs.Prelude.{ℕ, zero, suc, cond, List, eqb, length, Result, Ok, Err}
 use Rattle.theory.specs.declared.Refusal.{Refusal}
 use Rattle.theory.specs.declared.Refusal.TheVariants.{BadKind}
+use Rattle.record.specs.Stage.{at_start}
 use Rattle.record.specs.Record.{judged}
 use Rattle.record.specs.Contents.{Contents, nothing, joined, of_next}
+use Rattle.record.specs.declared.Stage.TheVariants.{Start}
 use Rattle.record.specs.declared.Cursor.{Cursor}
 use Rattle.record.specs.declared.Summary.{Summary}
 
@@ -17,7 +19,7 @@ summary c = record { counts = c.counts; candidates = c.candidates; first = c.fir
 
 -- a file without records is refused
 unfoldable pub ended : Cursor → Contents → File
-ended c t = cond (eqb c.stage 0) (refused (BadKind c.records)) (sound (summary c) t)
+ended c t = cond (at_start c.stage) (refused (BadKind c.records)) (sound (summary c) t)
 
 -- at most so many records from the cursor on, t read before it
 unfoldable pub read_from : List ℕ → Cursor → Contents → ℕ → File
@@ -31,7 +33,7 @@ start =
     record {
       at = 0;
       records = 0;
-      stage = 0;
+      stage = Start;
       counts = record { stamp = 0; atoms = 0; nodes = 0; operands = 0; roots = 0 };
       candidates = 0;
       first = 0;

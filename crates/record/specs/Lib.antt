@@ -1,3 +1,4 @@
+pub mod Stage
 pub mod Mark
 pub mod Number
 pub mod Rising

@@ -2,6 +2,8 @@
 -- Assumes nothing.
 use Rattle.std.specs.Prelude.{ℕ, ◌+◌, Bool, false, cond, not, ◌&&◌, ◌||◌, List, [], ◌∷◌, eqb, get_or}
 use Rattle.record.specs.declared.Mark.{Mark}
+use Rattle.record.specs.Stage.{at_start, at_nodes, at_roots}
+use Rattle.record.specs.declared.Stage.{Stage}
 use Rattle.record.specs.declared.Mark.TheVariants.{Theory, Atom, False, Implies, And, Or, Root, Candidate, Unknown}
 
 unfoldable pub is_mark : List ℕ → ℕ → List ℕ → Bool
@@ -23,14 +25,14 @@ mark_at file at =
     (cond (is_mark file at (82 ∷ 84 ∷ [])) Root
     (cond (is_mark file at (67 ∷ 65 ∷ [])) Candidate (node_mark_at file at)))
 
--- the stages of a file: 0 nothing yet, 1 nodes, 2 roots, 3 candidates; a mark out of order is refused
-abbrev pub in_order : Mark → ℕ → Bool
-in_order Theory stage = eqb stage 0
-in_order Atom stage = eqb stage 1
-in_order False stage = eqb stage 1
-in_order Implies stage = eqb stage 1
-in_order And stage = eqb stage 1
-in_order Or stage = eqb stage 1
-in_order Root stage = eqb stage 1 || eqb stage 2
-in_order Candidate stage = not (eqb stage 0)
+-- a mark out of order is refused
+abbrev pub in_order : Mark → Stage → Bool
+in_order Theory stage = at_start stage
+in_order Atom stage = at_nodes stage
+in_order False stage = at_nodes stage
+in_order Implies stage = at_nodes stage
+in_order And stage = at_nodes stage
+in_order Or stage = at_nodes stage
+in_order Root stage = at_nodes stage || at_roots stage
+in_order Candidate stage = not (at_start stage)
 in_order Unknown stage = false

@@ -3,6 +3,8 @@
 use Rattle.std.specs.Prelude.{ℕ, ◌+◌, List, length, get_or}
 use Rattle.theory.specs.declared.Counts.{Counts}
 use Rattle.record.specs.declared.Cursor.{Cursor}
+use Rattle.record.specs.declared.Stage.{Stage}
+use Rattle.record.specs.declared.Stage.TheVariants.{Start, Nodes, Roots, Candidates}
 use Rattle.record.specs.declared.Mark.{Mark}
 use Rattle.record.specs.declared.Mark.TheVariants.{Theory, Atom, False, Implies, And, Or, Root, Candidate, Unknown}
 
@@ -22,16 +24,16 @@ counts_after t Candidate vs = t
 counts_after t Unknown vs = t
 
 -- a record with these counts after it ends at `end`
-abbrev pub passed_other : Cursor → ℕ → Counts → ℕ → Cursor
+abbrev pub passed_other : Cursor → Stage → Counts → ℕ → Cursor
 passed_other c stage t end = record { at = end; records = c.records + 1; stage = stage; counts = t; candidates = c.candidates; first = end }
 
 abbrev pub passed : Cursor → Mark → Counts → ℕ → Cursor
-passed c Theory t end = passed_other c 1 t end
-passed c Atom t end = passed_other c 1 t end
-passed c False t end = passed_other c 1 t end
-passed c Implies t end = passed_other c 1 t end
-passed c And t end = passed_other c 1 t end
-passed c Or t end = passed_other c 1 t end
-passed c Root t end = passed_other c 2 t end
-passed c Candidate t end = record { at = end; records = c.records + 1; stage = 3; counts = t; candidates = c.candidates + 1; first = c.first }
-passed c Unknown t end = passed_other c 0 t end
+passed c Theory t end = passed_other c Nodes t end
+passed c Atom t end = passed_other c Nodes t end
+passed c False t end = passed_other c Nodes t end
+passed c Implies t end = passed_other c Nodes t end
+passed c And t end = passed_other c Nodes t end
+passed c Or t end = passed_other c Nodes t end
+passed c Root t end = passed_other c Roots t end
+passed c Candidate t end = record { at = end; records = c.records + 1; stage = Candidates; counts = t; candidates = c.candidates + 1; first = c.first }
+passed c Unknown t end = passed_other c Start t end

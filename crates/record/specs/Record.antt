@@ -1,8 +1,8 @@
 -- One record of a theory file: the refusal it gives, in the order 1, 2, 3, 6, 4, 5, 7, 8, or the cursor past it.
 -- Assumes nothing.
-use Rattle.std.specs.Prelude.{ℕ, ◌+◌, Bool, true, false, not, List, eqb, leb, length, Result, Ok, Err}
+use Rattle.std.specs.Prelude.{ℕ, ◌+◌, Bool, true, false, not, List, eqb, leb, length, Result, Ok, Err, is_ok}
 use Rattle.theory.specs.Limits.{limits_of}
-use Rattle.theory.specs.Admission.{all_below, Admission}
+use Rattle.theory.specs.Admission.{all_below}
 use Rattle.theory.specs.declared.Refusal.{Refusal}
 use Rattle.theory.specs.declared.Refusal.TheVariants.{BadKind, CutRecord, PastLimit, BadAtom, BadOperand, NoOperands, BadRoot, NotRising}
 use Rattle.record.specs.Mark.{mark_at, in_order}
@@ -17,10 +17,6 @@ use Rattle.record.specs.declared.Mark.TheVariants.{Theory, Atom, False, Implies,
 unfoldable pub unless : Bool → Refusal → Result Cursor Refusal → Result Cursor Refusal
 unless true r next = next
 unless false r next = Err r
-
-abbrev pub is_admitted : Admission → Bool
-is_admitted (Ok u) = true
-is_admitted (Err r) = false
 
 -- And or Or: 6, 5
 unfoldable pub judged_group : Cursor → List ℕ → Result Cursor Refusal → Result Cursor Refusal
@@ -41,7 +37,7 @@ judged_values c Unknown vs next = next
 -- 3, then those, of a record that is whole
 unfoldable pub judged_whole : Cursor → Mark → List ℕ → ℕ → Result Cursor Refusal
 judged_whole c mark vs end =
-    unless (is_admitted (limits_of (counts_after c.counts mark vs))) (PastLimit c.records)
+    unless (is_ok (limits_of (counts_after c.counts mark vs))) (PastLimit c.records)
     (judged_values c mark vs (Ok (passed c mark (counts_after c.counts mark vs) end)))
 
 -- 1, 2, then the others, of a record whose mark is whole

@@ -13,7 +13,7 @@ ghost use Rattle.record.specs.Record.{unless, judged_group, judged_values, judge
 ghost use Rattle.record.specs.File.{theory_file, verdict, start};
 ghost use Rattle.record.specs.Bounds.{Within};
 
-use theory::{Admission, Counts, Refusal};
+use theory::{Counts, Refusal};
 
 // What a record is.
 #[derive(Clone, Copy)]
@@ -29,21 +29,24 @@ pub enum Mark {
     Unknown,
 }
 
+// How far into a file a record stands: before the first one, then among the nodes, the roots or the candidates.
+#[derive(Clone, Copy, PartialEq, Eq)]
+pub enum Stage {
+    Start,
+    Nodes,
+    Roots,
+    Candidates,
+}
+
 // Where a record begins, how many came before it, the stage and the counts they lead to, and where the candidates begin.
 #[derive(Clone, Copy)]
 pub struct Cursor {
     pub at: usize,
     pub records: usize,
-    pub stage: usize,
+    pub stage: Stage,
     pub counts: Counts,
     pub candidates: usize,
     pub first: usize,
-}
-
-#[derive(Clone, Copy)]
-pub enum Step {
-    Next(Cursor),
-    Refused(Refusal),
 }
 
 // The counts of a sound file, the number of its candidates, and the place of the first one.
@@ -54,12 +57,6 @@ pub struct Summary {
     pub first: usize,
 }
 
-#[derive(Clone, Copy)]
-pub enum Judged {
-    Sound(Summary),
-    Refused(Refusal),
-}
-
 // The values of a record.
 #[derive(Clone, Copy)]
 pub struct Values {
@@ -67,62 +64,22 @@ pub struct Values {
     pub count: usize,
 }
 
-fn is_mark(file: &[u8], at: usize, mark: &[u8; 2]) -> bool
-    requires { at + 2 ≤ length file.now }
-    ensures { result ≡ is_mark file.now at mark.now }
-{
-    if file[at] == mark[0] {
-        file[at + 1] == mark[1]
-    } else {
-        false
-    }
-}
-
-// The mark of a node.
-fn node_mark_at(file: &[u8], at: usize) -> Mark
-    requires { at + 2 ≤ length file.now }
-    ensures { result ≡ node_mark_at file.now at }
-{
-    if is_mark(file, at, b"NA") {
-        return Mark::Atom;
-    }
-    if is_mark(file, at, b"NF") {
-        return Mark::False;
-    }
-    if is_mark(file, at, b"NI") {
-        return Mark::Implies;
-    }
-    if is_mark(file, at, b"NC") {
-        return Mark::And;
-    }
-    if is_mark(file, at, b"ND") {
-        return Mark::Or;
-    }
-    Mark::Unknown
-}
-
+#[tactic(auto, unfolding(crate::specs::Mark::mark_at, crate::specs::Mark::node_mark_at, crate::specs::Mark::is_mark))]
 pub fn mark_at(file: &[u8], at: usize) -> Mark
     requires { at + 2 ≤ length file.now }
     ensures { result ≡ mark_at file.now at }
 {
-    if is_mark(file, at, b"TH") {
-        return Mark::Theory;
+    match (file[at], file[at + 1]) {
+        (b'T', b'H') => Mark::Theory,
+        (b'R', b'T') => Mark::Root,
+        (b'C', b'A') => Mark::Candidate,
+        (b'N', b'A') => Mark::Atom,
+        (b'N', b'F') => Mark::False,
+        (b'N', b'I') => Mark::Implies,
+        (b'N', b'C') => Mark::And,
+        (b'N', b'D') => Mark::Or,
+        _ => Mark::Unknown,
     }
-    if is_mark(file, at, b"RT") {
-        return Mark::Root;
-    }
-    if is_mark(file, at, b"CA") {
-        return Mark::Candidate;
-    }
-    node_mark_at(file, at)
-}
-
-fn byte(file: &[u8], at: usize) -> usize
-    requires { at < length file.now }
-    ensures value { result ≡ get_or file.now at 0 }
-    ensures upper_bound { result < 256 }
-{
-    file[at] as usize
 }
 
 // Four bytes, low byte first.
@@ -131,24 +88,17 @@ pub fn number(file: &[u8], at: usize) -> usize
     ensures value { result ≡ number file.now at }
     ensures upper_bound { result < 4294967296 }
 {
-    byte(file, at)
-        + 256 * byte(file, at + 1)
-        + 65536 * byte(file, at + 2)
-        + 16777216 * byte(file, at + 3)
+    u32::from_le_bytes([file[at], file[at + 1], file[at + 2], file[at + 3]]) as usize
 }
 
-fn in_order(mark: Mark, stage: usize) -> bool
+fn in_order(mark: Mark, stage: Stage) -> bool
     ensures { result ≡ in_order mark stage }
 {
     match mark {
-        Mark::Theory => stage == 0,
-        Mark::Atom => stage == 1,
-        Mark::False => stage == 1,
-        Mark::Implies => stage == 1,
-        Mark::And => stage == 1,
-        Mark::Or => stage == 1,
-        Mark::Root => stage == 1 || stage == 2,
-        Mark::Candidate => stage != 0,
+        Mark::Theory => stage == Stage::Start,
+        Mark::Atom | Mark::False | Mark::Implies | Mark::And | Mark::Or => stage == Stage::Nodes,
+        Mark::Root => stage == Stage::Nodes || stage == Stage::Roots,
+        Mark::Candidate => stage != Stage::Start,
         Mark::Unknown => false,
     }
 }
@@ -157,15 +107,8 @@ fn counted(mark: Mark) -> bool
     ensures { result ≡ counted mark }
 {
     match mark {
-        Mark::Theory => false,
-        Mark::Atom => false,
-        Mark::False => false,
-        Mark::Implies => false,
-        Mark::And => true,
-        Mark::Or => true,
-        Mark::Root => false,
-        Mark::Candidate => true,
-        Mark::Unknown => false,
+        Mark::And | Mark::Or | Mark::Candidate => true,
+        _ => false,
     }
 }
 
@@ -174,15 +117,9 @@ fn arity(mark: Mark) -> usize
     ensures upper_bound { result ≤ 2 }
 {
     match mark {
-        Mark::Theory => 2,
-        Mark::Atom => 1,
-        Mark::False => 0,
-        Mark::Implies => 2,
-        Mark::And => 0,
-        Mark::Or => 0,
-        Mark::Root => 1,
-        Mark::Candidate => 0,
-        Mark::Unknown => 0,
+        Mark::Theory | Mark::Implies => 2,
+        Mark::Atom | Mark::Root => 1,
+        _ => 0,
     }
 }
 
@@ -193,12 +130,10 @@ fn is_whole(file: &[u8], at: usize, mark: Mark) -> bool
 {
     let left = file.len() - (at + 2);
     if counted(mark) {
-        if left < 4 {
-            return false;
-        }
-        return 4 * number(file, at + 2) <= left - 4;
+        left >= 4 && 4 * number(file, at + 2) <= left - 4
+    } else {
+        4 * arity(mark) <= left
     }
-    4 * arity(mark) <= left
 }
 
 // Of a whole record.
@@ -224,14 +159,11 @@ fn all_below(file: &[u8], v: Values, bound: usize) -> bool
     requires { v.start + 4 * v.count ≤ length file.now }
     ensures { result ≡ all_below bound (numbers file.now v.start v.count) }
 {
-    let start = v.start;
-    let count = v.count;
-    let mut i = 0;
-    while i < count {
+    let Values { start, count } = v;
+    for i in 0..count {
         if number(file, start + 4 * i) >= bound {
             return false;
         }
-        i += 1;
     }
     true
 }
@@ -241,49 +173,19 @@ fn is_rising(file: &[u8], v: Values) -> bool
     requires { v.start + 4 * v.count ≤ length file.now }
     ensures { result ≡ rising (numbers file.now v.start v.count) }
 {
-    let start = v.start;
-    let count = v.count;
+    let Values { start, count } = v;
     if count == 0 {
         return true;
     }
     let mut last = number(file, start);
-    let mut i = 1;
-    while i < count {
+    for i in 1..count {
         let x = number(file, start + 4 * i);
         if x <= last {
             return false;
         }
         last = x;
-        i += 1;
     }
     true
-}
-
-fn more(t: Counts, nodes: usize, operands: usize, roots: usize) -> Counts
-    requires { (t.nodes + nodes < 8589934592) × (t.operands + operands < 8589934592) × (t.roots + roots < 8589934592) }
-    ensures { result ≡ more t nodes operands roots }
-{
-    Counts {
-        stamp: t.stamp,
-        atoms: t.atoms,
-        nodes: t.nodes + nodes,
-        operands: t.operands + operands,
-        roots: t.roots + roots,
-    }
-}
-
-fn with_atoms(file: &[u8], t: Counts, v: Values) -> Counts
-    requires { (v.start + 4 * v.count ≤ length file.now) × (2 ≤ v.count) }
-    ensures { result ≡ counts_after t Mark.Theory (numbers file.now v.start v.count) }
-{
-    let stamp = number(file, v.start);
-    Counts {
-        stamp: stamp as u32,
-        atoms: number(file, v.start + 4),
-        nodes: t.nodes,
-        operands: t.operands,
-        roots: t.roots,
-    }
 }
 
 // The counts with what a record adds to them.
@@ -292,28 +194,38 @@ pub fn counts_after(file: &[u8], t: Counts, mark: Mark, v: Values) -> Counts
     ensures { result ≡ counts_after t mark (numbers file.now v.start v.count) }
 {
     match mark {
-        Mark::Theory => with_atoms(file, t, v),
-        Mark::Atom => more(t, 1, 0, 0),
-        Mark::False => more(t, 1, 0, 0),
-        Mark::Implies => more(t, 1, 0, 0),
-        Mark::And => more(t, 1, v.count, 0),
-        Mark::Or => more(t, 1, v.count, 0),
-        Mark::Root => more(t, 0, 0, v.count),
-        Mark::Candidate => t,
-        Mark::Unknown => t,
+        Mark::Theory => Counts {
+            stamp: number(file, v.start) as u32,
+            atoms: number(file, v.start + 4),
+            ..t
+        },
+        Mark::Atom | Mark::False | Mark::Implies => Counts {
+            nodes: t.nodes + 1,
+            ..t
+        },
+        Mark::And | Mark::Or => Counts {
+            nodes: t.nodes + 1,
+            operands: t.operands + v.count,
+            ..t
+        },
+        Mark::Root => Counts {
+            roots: t.roots + v.count,
+            ..t
+        },
+        Mark::Candidate | Mark::Unknown => t,
     }
 }
 
 // The cursor past a record that is no candidate.
-fn passed_other(c: Cursor, stage: usize, counts: Counts, end: usize) -> Cursor
+fn passed_other(c: Cursor, stage: Stage, counts: Counts, end: usize) -> Cursor
     requires { c.records < 9223372036854775808 }
     ensures { result ≡ passed_other c stage counts end }
 {
     Cursor {
         at: end,
         records: c.records + 1,
-        stage: stage,
-        counts: counts,
+        stage,
+        counts,
         candidates: c.candidates,
         first: end,
     }
@@ -325,33 +237,19 @@ pub fn passed(c: Cursor, mark: Mark, counts: Counts, end: usize) -> Cursor
     ensures { result ≡ passed c mark counts end }
 {
     match mark {
-        Mark::Theory => passed_other(c, 1, counts, end),
-        Mark::Atom => passed_other(c, 1, counts, end),
-        Mark::False => passed_other(c, 1, counts, end),
-        Mark::Implies => passed_other(c, 1, counts, end),
-        Mark::And => passed_other(c, 1, counts, end),
-        Mark::Or => passed_other(c, 1, counts, end),
-        Mark::Root => passed_other(c, 2, counts, end),
+        Mark::Theory | Mark::Atom | Mark::False | Mark::Implies | Mark::And | Mark::Or => {
+            passed_other(c, Stage::Nodes, counts, end)
+        }
+        Mark::Root => passed_other(c, Stage::Roots, counts, end),
         Mark::Candidate => Cursor {
             at: end,
             records: c.records + 1,
-            stage: 3,
-            counts: counts,
+            stage: Stage::Candidates,
+            counts,
             candidates: c.candidates + 1,
             first: c.first,
         },
-        Mark::Unknown => passed_other(c, 0, counts, end),
-    }
-}
-
-// On to the next record, unless the test fails.
-fn unless(test: bool, refusal: Refusal, next: Cursor) -> Result<Cursor, Refusal>
-    ensures { result ≡ unless test refusal (Ok next) }
-{
-    if test {
-        Ok(next)
-    } else {
-        Err(refusal)
+        Mark::Unknown => passed_other(c, Stage::Start, counts, end),
     }
 }
 
@@ -363,51 +261,46 @@ fn judge_group(file: &[u8], c: Cursor, v: Values, next: Cursor) -> Result<Cursor
     if v.count == 0 {
         return Err(Refusal::NoOperands(c.records));
     }
-    let nodes = c.counts.nodes;
-    let records = c.records;
-    unless(
-        all_below(file, v, nodes),
-        Refusal::BadOperand(records),
-        next,
-    )
+    if !all_below(file, v, c.counts.nodes) {
+        return Err(Refusal::BadOperand(c.records));
+    }
+    Ok(next)
 }
 
 // A candidate: 4, 8.
+#[tactic(auto, unfolding(crate::specs::Record::judged_values, crate::specs::Record::unless))]
 fn judge_candidate(file: &[u8], c: Cursor, v: Values, next: Cursor) -> Result<Cursor, Refusal>
     requires { v.start + 4 * v.count ≤ length file.now }
     ensures { result ≡ judged_values c Mark.Candidate (numbers file.now v.start v.count) (Ok next) }
 {
-    let atoms = c.counts.atoms;
-    let records = c.records;
-    if all_below(file, v, atoms) {
-        unless(is_rising(file, v), Refusal::NotRising(records), next)
-    } else {
-        Err(Refusal::BadAtom(records))
+    if !all_below(file, v, c.counts.atoms) {
+        return Err(Refusal::BadAtom(c.records));
     }
+    if !is_rising(file, v) {
+        return Err(Refusal::NotRising(c.records));
+    }
+    Ok(next)
 }
 
 // 6, 4, 5, 7, 8 by the values of the record.
-fn judge_values(file: &[u8], c: Cursor, mark: Mark, v: Values, next: Cursor) -> Result<Cursor, Refusal>
+#[tactic(auto, unfolding(crate::specs::Record::judged_values, crate::specs::Record::unless))]
+fn judge_values(
+    file: &[u8],
+    c: Cursor,
+    mark: Mark,
+    v: Values,
+    next: Cursor,
+) -> Result<Cursor, Refusal>
     requires { v.start + 4 * v.count ≤ length file.now }
     ensures { result ≡ judged_values c mark (numbers file.now v.start v.count) (Ok next) }
 {
-    let atoms = c.counts.atoms;
-    let nodes = c.counts.nodes;
-    let records = c.records;
     match mark {
-        Mark::Theory => Ok(next),
-        Mark::Atom => unless(all_below(file, v, atoms), Refusal::BadAtom(records), next),
-        Mark::False => Ok(next),
-        Mark::Implies => unless(
-            all_below(file, v, nodes),
-            Refusal::BadOperand(records),
-            next,
-        ),
-        Mark::And => judge_group(file, c, v, next),
-        Mark::Or => judge_group(file, c, v, next),
-        Mark::Root => unless(all_below(file, v, nodes), Refusal::BadRoot(records), next),
+        Mark::Atom if !all_below(file, v, c.counts.atoms) => Err(Refusal::BadAtom(c.records)),
+        Mark::Implies if !all_below(file, v, c.counts.nodes) => Err(Refusal::BadOperand(c.records)),
+        Mark::And | Mark::Or => judge_group(file, c, v, next),
+        Mark::Root if !all_below(file, v, c.counts.nodes) => Err(Refusal::BadRoot(c.records)),
         Mark::Candidate => judge_candidate(file, c, v, next),
-        Mark::Unknown => Ok(next),
+        _ => Ok(next),
     }
 }
 
@@ -417,15 +310,12 @@ fn judge_whole(file: &[u8], c: Cursor, mark: Mark) -> Result<Cursor, Refusal>
     ensures { result ≡ judged_whole c mark (values_of file.now c.at mark) (record_end file.now c.at mark) }
 {
     let v = values_of(file, c.at, mark);
-    let old = c.counts;
-    let counts = counts_after(file, old, mark, v);
-    match theory::limits(counts) {
-        Ok(()) => {
-            let next = passed(c, mark, counts, v.start + 4 * v.count);
-            judge_values(file, c, mark, v, next)
-        }
-        Err(_) => Err(Refusal::PastLimit(c.records)),
+    let counts = counts_after(file, c.counts, mark, v);
+    if theory::limits(counts).is_err() {
+        return Err(Refusal::PastLimit(c.records));
     }
+    let next = passed(c, mark, counts, v.start + 4 * v.count);
+    judge_values(file, c, mark, v, next)
 }
 
 // The record that begins at the cursor.
@@ -433,20 +323,17 @@ fn judge_record(file: &[u8], c: Cursor) -> Result<Cursor, Refusal>
     requires { Within (length file.now) c }
     ensures { result ≡ judged file.now c }
 {
-    let at = c.at;
-    if file.len() - at < 2 {
+    if file.len() - c.at < 2 {
         return Err(Refusal::CutRecord(c.records));
     }
-    let mark = mark_at(file, at);
-    if in_order(mark, c.stage) {
-        if is_whole(file, at, mark) {
-            judge_whole(file, c, mark)
-        } else {
-            Err(Refusal::CutRecord(c.records))
-        }
-    } else {
-        Err(Refusal::BadKind(c.records))
+    let mark = mark_at(file, c.at);
+    if !in_order(mark, c.stage) {
+        return Err(Refusal::BadKind(c.records));
     }
+    if !is_whole(file, c.at, mark) {
+        return Err(Refusal::CutRecord(c.records));
+    }
+    judge_whole(file, c, mark)
 }
 
 // Before the first record.
@@ -456,7 +343,7 @@ pub fn start() -> Cursor
     Cursor {
         at: 0,
         records: 0,
-        stage: 0,
+        stage: Stage::Start,
         counts: Counts {
             stamp: 0,
             atoms: 0,
@@ -475,18 +362,14 @@ pub fn judge(file: &[u8]) -> Result<Summary, Refusal>
 {
     let mut c = start();
     while c.at < file.len() {
-        match judge_record(file, c) {
-            Ok(next) => c = next,
-            Err(r) => return Err(r),
-        }
+        c = judge_record(file, c)?;
     }
-    if c.stage == 0 {
-        return Err(Refusal::BadKind(c.records));
+    match c.stage {
+        Stage::Start => Err(Refusal::BadKind(c.records)),
+        _ => Ok(Summary {
+            counts: c.counts,
+            candidates: c.candidates,
+            first: c.first,
+        }),
     }
-    let counts = c.counts;
-    Ok(Summary {
-        counts: counts,
-        candidates: c.candidates,
-        first: c.first,
-    })
 }

@@ -4,67 +4,32 @@
 ghost use Rattle.std.specs.Prelude.{◌≡◌, ◌≤◌};
 ghost use Rattle.record.specs.File.{theory_file, verdict};
 
-use load::Loaded;
-use record::{Judged, Summary};
+use record::Summary;
 use std::io;
 use theory::Refusal;
 
-fn put_digit(rt: &impl Print, d: usize) -> io::Result<()> {
-    if d < 10 {
-        let text = [48u8 + d as u8];
-        rt.write_all(&text)?;
-    }
-    Ok(())
-}
-
-// A space and the number, which is below 1,000.
-fn put(rt: &impl Print, n: usize) -> io::Result<()> {
-    rt.write_all(b" ")?;
-    if n >= 100 {
-        put_digit(rt, n / 100)?;
-    }
-    if n >= 10 {
-        put_digit(rt, n / 10 % 10)?;
-    }
-    put_digit(rt, n % 10)
-}
-
-fn end_line(rt: &impl Print) -> io::Result<()> {
-    rt.write_all(b"\n")
-}
-
-fn show_refusal(rt: &impl Print, number: usize, place: usize) -> io::Result<()> {
-    rt.write_all(b"refused")?;
-    put(rt, number)?;
-    put(rt, place)?;
-    end_line(rt)
-}
-
 fn show_refused(rt: &impl Print, r: Refusal) -> io::Result<()> {
-    match r {
-        Refusal::BadKind(k) => show_refusal(rt, 1, k),
-        Refusal::CutRecord(k) => show_refusal(rt, 2, k),
-        Refusal::PastLimit(k) => show_refusal(rt, 3, k),
-        Refusal::BadAtom(k) => show_refusal(rt, 4, k),
-        Refusal::BadOperand(k) => show_refusal(rt, 5, k),
-        Refusal::NoOperands(k) => show_refusal(rt, 6, k),
-        Refusal::BadRoot(k) => show_refusal(rt, 7, k),
-        Refusal::NotRising(k) => show_refusal(rt, 8, k),
-        Refusal::ShortBuffer(b) => show_refusal(rt, 9, b),
-        _ => show_refusal(rt, 0, 0),
-    }
+    let (number, place) = match r {
+        Refusal::BadKind(k) => (1, k),
+        Refusal::CutRecord(k) => (2, k),
+        Refusal::PastLimit(k) => (3, k),
+        Refusal::BadAtom(k) => (4, k),
+        Refusal::BadOperand(k) => (5, k),
+        Refusal::NoOperands(k) => (6, k),
+        Refusal::BadRoot(k) => (7, k),
+        Refusal::NotRising(k) => (8, k),
+        Refusal::ShortBuffer(b) => (9, b),
+        _ => (0, 0),
+    };
+    println!(rt; "refused {number} {place}")
 }
 
 fn show_sound(rt: &impl Print, s: Summary) -> io::Result<()> {
-    rt.write_all(b"sound")?;
-    put(rt, s.counts.stamp as usize)?;
-    put(rt, s.counts.atoms)?;
-    put(rt, s.counts.nodes)?;
-    put(rt, s.counts.operands)?;
-    put(rt, s.counts.roots)?;
-    put(rt, s.candidates)?;
-    put(rt, s.first)?;
-    end_line(rt)
+    let t = s.counts;
+    println!(rt;
+        "sound {} {} {} {} {} {} {}",
+        t.stamp, t.atoms, t.nodes, t.operands, t.roots, s.candidates, s.first,
+    )
 }
 
 fn show(rt: &impl Print, file: &[u8]) -> io::Result<()> {
@@ -74,20 +39,12 @@ fn show(rt: &impl Print, file: &[u8]) -> io::Result<()> {
     }
 }
 
-fn show_words(rt: &impl Print, label: &[u8], words: &[u32]) -> io::Result<()> {
-    rt.write_all(label)?;
-    let mut i = 0;
-    while i < words.len() {
-        put(rt, words[i] as usize)?;
-        i += 1;
+fn show_words(rt: &impl Print, label: &str, words: &[u32]) -> io::Result<()> {
+    print!(rt; "{label}")?;
+    for word in words {
+        print!(rt; " {word}")?;
     }
-    end_line(rt)
-}
-
-fn show_word(rt: &impl Print, word: u64) -> io::Result<()> {
-    rt.write_all(b"candidate")?;
-    put(rt, word as usize)?;
-    end_line(rt)
+    println!(rt)
 }
 
 // The first word of each candidate, found one after the other.
@@ -96,26 +53,19 @@ fn show_candidates(rt: &impl Print, file: &[u8], s: Summary) -> io::Result<()>
 {
     let mut words = [0u64; 8];
     let mut at = s.first;
-    let mut i = 0;
-    let n = s.candidates;
-    while i < n {
+    for _candidate in 0..s.candidates {
         at = load::candidate(file, at, s.counts.atoms, &mut words);
-        show_word(rt, words[0])?;
-        i += 1;
+        println!(rt; "candidate {}", words[0])?;
     }
     Ok(())
 }
 
 fn show_all_candidates(rt: &impl Print, file: &[u8]) -> io::Result<()> {
     match record::judge(file) {
-        Ok(s) => {
-            if s.counts.atoms <= 512 {
-                show_candidates(rt, file, s)?;
-            }
-        }
-        Err(r) => show_refused(rt, r)?,
+        Ok(s) if s.counts.atoms <= 512 => show_candidates(rt, file, s),
+        Ok(_) => Ok(()),
+        Err(r) => show_refused(rt, r),
     }
-    Ok(())
 }
 
 // Into tables of the given lengths.
@@ -130,9 +80,9 @@ fn show_loaded(
         Ok(s) => show_sound(rt, s)?,
         Err(r) => show_refused(rt, r)?,
     }
-    show_words(rt, b"nodes", nodes)?;
-    show_words(rt, b"operands", operands)?;
-    show_words(rt, b"roots", roots)
+    show_words(rt, "nodes", nodes)?;
+    show_words(rt, "operands", operands)?;
+    show_words(rt, "roots", roots)
 }
 
 fn example(rt: &impl Print) -> io::Result<()> {

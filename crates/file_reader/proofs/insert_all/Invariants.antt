@@ -7,6 +7,3 @@ use Rattle.file_reader.proofs.insert_all.Given as goal
 
 abbrev pub invariant-loop-i : goal.invariant-loop-i
 invariant-loop-i l = (l.i ≤ l.count) × (length l.words ≡ length l.initial.words) × (inserted_all l.initial.words (numbers l.file l.from l.count) ≡ inserted_all l.words (numbers l.file (l.from + 4 * l.i) (l.count - l.i)))
-
-abbrev pub decreases-loop-i : goal.decreases-loop-i
-decreases-loop-i l = l.count - l.i

@@ -6,6 +6,3 @@ use Rattle.record.proofs.all_below.Given as goal
 
 abbrev pub invariant-loop-i : goal.invariant-loop-i
 invariant-loop-i l = (l.i ≤ l.count) × (all_below l.bound (numbers l.file l.start l.count) ≡ all_below l.bound (numbers l.file (l.start + 4 * l.i) (l.count - l.i)))
-
-abbrev pub decreases-loop-i : goal.decreases-loop-i
-decreases-loop-i l = l.count - l.i

@@ -1,28 +1,17 @@
 use native.Mathlib.Omega.{arith}
-use Rattle.record.proofs.Laws.{length-numbers}
-use borrow.Author.Rules.{rules}
+use Rattle.record.proofs.Laws.{length-numbers, two_numbers}
 use Rattle.record.proofs.counts_after.Goals as goal
 
-pub with_atoms-requires : goal.with_atoms-requires
-with_atoms-requires c = (search rules, omega (arith, rw c.in-Theory.is at c.requires.1))
-
 pub returns-in-Theory : goal.returns-in-Theory
-returns-in-Theory c = rw c.in-Theory.is c.with_atoms.ensures
+returns-in-Theory c =
+    let two = two_numbers c.args.file.now c.args.v.start c.args.v.count (omega (arith, rw c.in-Theory.is at c.requires.1)) in
+    simp (c.in-Theory.is, two.0, two.1, ← c.number.ensures.value, ← c.number-in-Theory.ensures.value)
 
 pub returns-in-Atom : goal.returns-in-Atom
-returns-in-Atom c = rw c.in-Atom.is c.more.ensures
-
-pub returns-in-False : goal.returns-in-False
-returns-in-False c = rw c.in-False.is c.more-in-False.ensures
-
-pub returns-in-Implies : goal.returns-in-Implies
-returns-in-Implies c = rw c.in-Implies.is c.more-in-Implies.ensures
+returns-in-Atom c = grind arith
 
 pub returns-in-And : goal.returns-in-And
-returns-in-And c = rw (c.in-And.is, length-numbers) c.more-in-And.ensures
-
-pub returns-in-Or : goal.returns-in-Or
-returns-in-Or c = rw (c.in-Or.is, length-numbers) c.more-in-Or.ensures
+returns-in-And c = grind (arith, length-numbers)
 
 pub returns-in-Root : goal.returns-in-Root
-returns-in-Root c = rw (c.in-Root.is, length-numbers) c.more-in-Root.ensures
+returns-in-Root c = grind (arith, length-numbers)

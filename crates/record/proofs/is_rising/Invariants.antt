@@ -6,6 +6,3 @@ use Rattle.record.proofs.is_rising.Given as goal
 
 abbrev pub invariant-loop-i : goal.invariant-loop-i
 invariant-loop-i l = (l.i ≤ l.count) × (rising (numbers l.file l.start l.count) ≡ rising_from l.last (numbers l.file (l.start + 4 * l.i) (l.count - l.i)))
-
-abbrev pub decreases-loop-i : goal.decreases-loop-i
-decreases-loop-i l = l.count - l.i

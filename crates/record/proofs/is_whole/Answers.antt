@@ -1,13 +1,14 @@
 use mathlib.Core.Path.{sym, ◌∙◌}
-use Rattle.record.proofs.Laws.{whole_fixed, whole_cut, whole_counted}
+use borrow.Author.Tests.{lt-leb}
 use borrow.Author.Rules.{rules}
+use Rattle.record.proofs.Laws.{whole_fixed, whole_cut, whole_counted}
 use Rattle.record.proofs.is_whole.Goals as goal
 
-pub returns-then-left-lt4 : goal.returns-then-left-lt4
-returns-then-left-lt4 c = whole_cut _ _ _ c.if-left-lt4.true (search rules) (sym c.counted.ensures ∙ c.if-counted.true)
+pub returns-then-left-ge4 : goal.returns-then-left-ge4
+returns-then-left-ge4 c = whole_counted _ _ _ _ (search rules) (sym c.counted.ensures ∙ c.if-counted.true) c.number.ensures.value
 
-pub returns-then-counted : goal.returns-then-counted
-returns-then-counted c = whole_counted _ _ _ _ (search rules) (sym c.counted.ensures ∙ c.if-counted.true) c.number.ensures.value
+pub returns-else-left-ge4 : goal.returns-else-left-ge4
+returns-else-left-ge4 c = lt-leb _ _ c.if-left-ge4.false ∙ whole_cut _ _ _ c.if-left-ge4.false (search rules) (sym c.counted.ensures ∙ c.if-counted.true)
 
-pub returns : goal.returns
-returns c = whole_fixed _ _ _ _ (search rules) (sym c.counted.ensures ∙ c.if-counted.false) c.arity.ensures.value
+pub returns-else-counted : goal.returns-else-counted
+returns-else-counted c = whole_fixed _ _ _ _ (search rules) (sym c.counted.ensures ∙ c.if-counted.false) c.arity.ensures.value

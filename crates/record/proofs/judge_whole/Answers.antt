@@ -1,4 +1,6 @@
 use native.Mathlib.Omega.{arith}
+use mathlib.Core.Bool.{not}
+use mathlib.Core.Path.{ap, ◌∙◌}
 use Rattle.record.specs.Layout.{record_end}
 use Rattle.record.proofs.Steps.{past_limit, within_limits, fixed_least}
 use borrow.Author.Rules.{rules}
@@ -16,8 +18,8 @@ pub judge_values-requires : goal.judge_values-requires
 unfolding record_end
 judge_values-requires c = omega (arith, c.values_of-v.ensures.0, c.values_of-v.ensures.1, c.requires.1)
 
-pub returns-in-Ok : goal.returns-in-Ok
-returns-in-Ok c = within_limits _ _ _ _ _ _ _ c.values_of-v.ensures.0 c.values_of-v.ensures.1 c.counts_after-counts.ensures c.limits.ensures _ _ c.in-Ok.is c.passed-next.ensures c.judge_values.ensures
+pub returns-then-is_err : goal.returns-then-is_err
+returns-then-is_err c = past_limit _ _ _ _ _ _ _ c.values_of-v.ensures.0 c.values_of-v.ensures.1 c.counts_after-counts.ensures c.limits.ensures (c.is_err.ensures.negation ∙ ap not c.if-is_err.true)
 
-pub returns-in-Err : goal.returns-in-Err
-returns-in-Err c = past_limit _ _ _ _ _ _ _ c.values_of-v.ensures.0 c.values_of-v.ensures.1 c.counts_after-counts.ensures c.limits.ensures _ c.in-Err.is
+pub returns : goal.returns
+returns c = within_limits _ _ _ _ _ _ _ c.values_of-v.ensures.0 c.values_of-v.ensures.1 c.counts_after-counts.ensures c.limits.ensures _ _ (c.is_err.ensures.negation ∙ ap not c.if-is_err.false) c.passed-next.ensures c.judge_values.ensures

@@ -4,4 +4,4 @@ use Rattle.record.proofs.number.Goals as goal
 
 pub returns : goal.returns
 unfolding number
-returns c = record { value = omega arith; upper_bound = omega arith }
+returns c = record { value = omega (arith, c.from_le_bytes.ensures); upper_bound = omega (arith, c.from_le_bytes.ensures) }

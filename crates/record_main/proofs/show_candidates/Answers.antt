@@ -10,17 +10,17 @@ use Rattle.load.proofs.Candidates.{sound_candidates}
 use borrow.Author.Rules.{rules}
 use Rattle.record_main.proofs.show_candidates.Goals as goal
 
-pub loop-i-init : goal.loop-i-init
+pub loop-candidate-init : goal.loop-candidate-init
 unfolding place_of
-loop-i-init g c = (search rules, search rules, search rules, refl)
+loop-candidate-init g c = (search rules, refl)
 
 pub candidate-at-requires : goal.candidate-at-requires
 candidate-at-requires g c = (
-  rw c.loop-i.invariant.3 ((sound_candidates c.args.file.now c.args.s (contents_of (theory_file c.args.file.now)) (sound-is (theory_file c.args.file.now) c.args.s c.requires.0)).stands c.loop-i.i (omega (arith, c.loop-i.invariant.1, c.loop-i-test.true))),
+  rw c.loop-candidate.invariant.1 ((sound_candidates c.args.file.now c.args.s (contents_of (theory_file c.args.file.now)) (sound-is (theory_file c.args.file.now) c.args.s c.requires.0)).stands c.loop-candidate._candidate (omega (arith, c.loop-candidate-test.true))),
   search rules,
-  omega (arith, c.loop-i.invariant.2, c.requires.1, div-add-mod' (c.args.s.counts.atoms + 63) 64),
+  omega (arith, c.loop-candidate.invariant.0, c.requires.1, div-add-mod' (c.args.s.counts.atoms + 63) 64),
 )
 
-pub loop-i-preserved : goal.loop-i-preserved
+pub loop-candidate-preserved : goal.loop-candidate-preserved
 unfolding place_of
-loop-i-preserved g c = (search rules, search rules, search rules, rw (add-one, ← c.loop-i.invariant.3) c.candidate-at.ensures.0)
+loop-candidate-preserved g c = (search rules, rw (add-one, ← c.loop-candidate.invariant.1) c.candidate-at.ensures.0)
