@@ -1,6 +1,6 @@
 -- The dependencies before a cursor, and what a step of it gives: one more of them, in order, or none.
 -- Assumes nothing.
-use Rattle.std.specs.Prelude.{ℕ, ◌+◌, ◌-◌, ◌<◌, ◌≤◌, ◌≡◌, cond, List, [], ◌∷◌, ◌++◌, ltb}
+use Rattle.std.specs.Prelude.{ℕ, ◌+◌, ◌-◌, ◌<◌, ◌≤◌, ◌≡◌, cond, List, [], ◌∷◌, ◌++◌, ltb, Option, Some, None}
 use Rattle.base.specs.Gather.{gather}
 use Rattle.graph.specs.Edge.{Edge, edge}
 use Rattle.theory.specs.Node.{node_at, span}
@@ -8,10 +8,8 @@ use Rattle.theory.specs.Admission.{span_start}
 use Rattle.theory.specs.declared.Counts.{Counts}
 use Rattle.theory.specs.declared.Node.{Node}
 use Rattle.theory.specs.declared.Node.TheVariants as node
-use Rattle.ranks.specs.Dependency.{positive, operand_edges, edges_into, edges_of, dependencies}
+use Rattle.ranks.specs.Dependency.{positive, operand_edges, edges_into, edges_of}
 use Rattle.dependency.specs.declared.Cursor.{Cursor}
-use Rattle.dependency.specs.declared.Dependency.{Dependency}
-use Rattle.dependency.specs.declared.Dependency.TheVariants.{Next, Skip, End}
 
 -- how many operands a node has in the operand table
 abbrev pub slots : Node → ℕ
@@ -55,8 +53,7 @@ module _ (t : Counts) (nodes operands classes roots : List ℕ) where
     pub range : InRange d
     pub less : left d < left c
 
-  -- an answer at the cursor c
-  abbrev pub Stepped : Cursor → Dependency → Type 0
-  Stepped c (Next s v d) = Moved c d (edge s v ∷ []) × (s < t.atoms + t.nodes) × (v < t.atoms + t.nodes)
-  Stepped c (Skip d) = Moved c d []
-  Stepped c End = before c ≡ dependencies t nodes operands classes roots
+  -- a step from the cursor c to d: the edge there, if there is one
+  abbrev pub Stepped : Cursor → Option (ℕ × ℕ) → Cursor → Type 0
+  Stepped c (Some e) d = Moved c d (edge e.0 e.1 ∷ []) × (e.0 < t.atoms + t.nodes) × (e.1 < t.atoms + t.nodes)
+  Stepped c None d = Moved c d []

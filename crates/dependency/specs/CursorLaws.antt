@@ -12,7 +12,6 @@ use Rattle.graph.specs.Edge.{Edge, edge}
 use Rattle.theory.specs.Node.{node_at, span}
 use Rattle.theory.specs.Admission.{span_start, span_end}
 use Rattle.theory.specs.Spans.{Indexed}
-use Rattle.theory.specs.Formed.{and_indexed, or_indexed}
 use Rattle.theory.specs.WellFormed.{NodeTables}
 use Rattle.theory.specs.declared.Counts.{Counts}
 use Rattle.theory.specs.declared.Node.{Node}
@@ -20,8 +19,11 @@ use Rattle.theory.specs.declared.Node.TheVariants as node
 use Rattle.theory.specs.declared.Refusal.{Refusal}
 use Rattle.compile.specs.Producer.{produced}
 use Rattle.compile.specs.declared.Producer.{Producer}
+use Rattle.compile.proofs.RootFormula.{producer_bounded}
 use Rattle.ranks.specs.Dependency.{positive, only, operand_edges, node_edges, body_edges, produced_edges, edges_into, edges_of, dependencies}
+use Rattle.ranks.specs.Kinds.{Grouped, of_and, of_or, Bare, bare_false, bare_implies, bare_unknown, grouped_indexed}
 use Rattle.dependency.specs.Cursor.{slots, slot_edges, before, left, InRange, Moved}
+use Rattle.dependency.specs.Lent.{Lent}
 use Rattle.dependency.specs.declared.Cursor.{Cursor}
 
 operand_edges-append : (A : ℕ) (classes : List ℕ) (v : ℕ) (xs ys : List ℕ) → operand_edges A classes v (xs ++ ys) ≡ operand_edges A classes v xs ++ operand_edges A classes v ys
@@ -57,21 +59,10 @@ start_later nodes k (suc n) =
 pub start_below : (nodes : List ℕ) (k n : ℕ) → k ≤ n → span_start nodes k ≤ span_start nodes n
 start_below nodes k n l = let e : k + (n - k) ≡ n = omega arith in rw e at (start_later nodes k (n - k))
 
--- a node into which no dependency goes
-pub data Bare : Node → Type 0 where
-  bare_false : Bare node.False
-  bare_implies : {l r : ℕ} → Bare (node.Implies l r)
-  bare_unknown : Bare node.Unknown
-
 -- no producer is made
 pub data NotMade : Result (Option Producer) Refusal → Type 0 where
   not-nothing : NotMade (Ok None)
   not_refused : {r : Refusal} → NotMade (Err r)
-
--- a node is an And or an Or with this span
-pub data Grouped : Node → ℕ → ℕ → Type 0 where
-  of_and : {s c : ℕ} → Grouped (node.And s c) s c
-  of_or : {s c : ℕ} → Grouped (node.Or s c) s c
 
 picked_none : (b : Bool) → cond {A = List Edge} b [] [] ≡ []
 picked_none true = refl
@@ -203,13 +194,16 @@ module _ (t : Counts) (nodes operands classes roots : List ℕ) where
     unfolding dependencies
     no_more l h = let all : c.root ≡ t.roots = omega (arith, range.root_in) in before_root l ∙ rw all
 
--- the span of a group lies in the table, and its operands are below the node
-pub grouped_indexed : (t : Counts) (nodes operands : List ℕ) → NodeTables t nodes operands → (k : ℕ) → k < t.nodes → (s n : ℕ) → Grouped (node_at nodes k) s n → Indexed operands k s n
-grouped_indexed t nodes operands tables k l s n g = go (node_at nodes k) refl g
-  where
-    go : (node : Node) → node_at nodes k ≡ node → Grouped node s n → Indexed operands k s n
-    go node e of_and = and_indexed t nodes operands tables k l k s n (omega arith) e
-    go node e of_or = or_indexed t nodes operands tables k l k s n (omega arith) e
+-- the span of a group lies in the table, and the operand at the cursor is below the node
+module _ (t : Counts) (nodes operands : List ℕ) (tables : NodeTables t nodes operands) (k : ℕ) (l : k < t.nodes) (s n : ℕ) (g : Grouped (node_at nodes k) s n) where
+  indexed : Indexed operands k s n
+  indexed = grouped_indexed t nodes operands tables k l k (omega arith) s n g
+
+  pub operand_within : s + n ≤ length operands
+  operand_within = indexed.within
+
+  pub operand_below : (j o : ℕ) → j < n → o ≡ get_or operands (s + j) 0 → o < k
+  operand_below j o h e = rw e (indexed.lower (s + j) (omega arith) (omega arith))
 
 -- a class word and the test on it
 pub class_yes : (classes : List ℕ) (k w : ℕ) → w ≡ get_or classes k 0 → w ≡ 1 → positive classes k ≡ true
@@ -240,3 +234,10 @@ module _ (t : Counts) (nodes operands classes roots : List ℕ) (i root : ℕ) (
   pub edges_body : (x : Producer) (b : ℕ) → made ≡ Ok (Some x) → x.body ≡ suc b → edges_of t.atoms nodes operands classes roots i ≡ only (positive classes b) (edge (t.atoms + b) x.head)
   unfolding produced_edges body_edges
   edges_body x b e z = root_edges ∙ rw (e, z)
+
+-- its producer's head is an atom, and its body a node
+pub root_bounded : (t : Counts) (nodes operands classes roots : List ℕ) → Lent t nodes operands roots classes → (i root : ℕ) (made : Result (Option Producer) Refusal) → i < t.roots
+    → root ≡ get_or roots i 0 → made ≡ produced nodes operands classes root → (x : Producer) → made ≡ Ok (Some x) → (x.head < t.atoms) × (x.body ≤ t.nodes)
+root_bounded t nodes operands classes roots lent i root made l p q x e =
+    let b = producer_bounded t nodes operands classes lent.tables root (rw p (lent.listed.in_nodes i l)) x (sym q ∙ e) in
+    (b.head_in, b.body_in_lem)

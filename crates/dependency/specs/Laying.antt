@@ -1,6 +1,6 @@
 -- The dependencies laid one by one in a work area behind the class words.
 -- Assumes nothing.
-use Rattle.std.specs.Prelude.{ℕ, ◌+◌, ◌*◌, ◌<◌, ◌≤◌, ◌≡◌, true, false, List, length, get_or, take, drop}
+use Rattle.std.specs.Prelude.{ℕ, ◌+◌, ◌*◌, ◌<◌, ◌≤◌, ◌≡◌, List, Option, MatchOption, length, get_or, take, drop}
 use Rattle.theory.specs.Limits.{Limited}
 use Rattle.theory.specs.Admission.{span_start}
 use Rattle.theory.specs.WellFormed.{NodeTables, RootTable}
@@ -31,11 +31,12 @@ pub record LaidBefore (t : Counts) (nodes operands roots : List ℕ) (v : ℕ) (
   pub laid : Laid v (most t) (before t nodes operands (take t.nodes area) roots l.cursor) (drop t.nodes area)
 
 -- one step: the class words stay; more is laid and less is left, or all is laid
-pub record LaidNext (t : Counts) (nodes operands roots : List ℕ) (v : ℕ) (area after : List ℕ) (l r : Laying) : Type 0 where
+pub record LaidNext (t : Counts) (nodes operands roots : List ℕ) (v : ℕ) (area after : List ℕ) (l : Laying) (next : Option Laying) : Type 0 where
   pub long : length after ≡ length area
   pub classes : take t.nodes after ≡ take t.nodes area
-  pub more : r.done ≡ false → LaidBefore t nodes operands roots v after r × (left t nodes operands (take t.nodes area) roots r.cursor < left t nodes operands (take t.nodes area) roots l.cursor)
-  pub all : r.done ≡ true → Laid v (most t) (dependencies t nodes operands (take t.nodes area) roots) (drop t.nodes after)
+  pub laid :
+      MatchOption next (Laid v (most t) (dependencies t nodes operands (take t.nodes area) roots) (drop t.nodes after))
+      (λ r. LaidBefore t nodes operands roots v after r × (left t nodes operands (take t.nodes area) roots r.cursor < left t nodes operands (take t.nodes area) roots l.cursor))
 
 -- no edge is laid behind the class words
 pub record Empty (t : Counts) (v : ℕ) (area : List ℕ) : Type 0 where

@@ -1,8 +1,7 @@
 -- One step of laying dependencies.
 -- Assumes nothing.
-use Rattle.std.specs.Prelude.{ℕ, suc, ◌+◌, ◌*◌, ◌-◌, ◌<◌, ◌≤◌, ◌≡◌, refl, Bool, true, false, cond, List, [], ◌∷◌, ◌++◌, length, get_or, take, drop}
-use Rattle.std.proofs.Common.{arith, sym, ap, ◌∙◌, true≢false, append-nil, length-append, length-drop, length-take-le, take_at, drop_at, drop-drop}
-use Rattle.std.proofs.lemmas.Bool.{false≢true}
+use Rattle.std.specs.Prelude.{ℕ, ◌+◌, ◌*◌, ◌-◌, ◌<◌, ◌≤◌, ◌≡◌, refl, List, Some, None, [], ◌∷◌, ◌++◌, length, get_or, take, drop}
+use Rattle.std.proofs.Common.{arith, sym, ap, ◌∙◌, append-nil, length-append, length-drop, length-take-le, take_at, drop_at, drop-drop}
 use Rattle.std.proofs.Math.Seq.{drop-length}
 use Rattle.graph.specs.Edge.{edge}
 use Rattle.theory.specs.declared.Counts.{Counts}
@@ -67,12 +66,12 @@ module _ (t : Counts) (nodes operands roots : List ℕ) (v : ℕ) (area : List �
 
       pub laid-edge : (after ys : List ℕ) → length after ≡ length area → take t.nodes after ≡ take t.nodes area → drop t.nodes after ≡ ys
           → ys ≡ laying v (most t) l.laid s x (take (length area - t.nodes) (drop t.nodes area))
-          → LaidNext t nodes operands roots v area after l (record { laid = l.laid + 1; cursor = d; done = false })
+          → LaidNext t nodes operands roots v area after l (Some (record { laid = l.laid + 1; cursor = d }))
       laid-edge after ys long front back e =
           record {
             long = long;
             classes = front;
-            more = λ q. (
+            laid = (
               record {
                 range = rw front step.0.range;
                 number = rw (front, step.0.grown, length-append) (omega (arith, b.number));
@@ -84,26 +83,24 @@ module _ (t : Counts) (nodes operands roots : List ℕ) (v : ℕ) (area : List �
               },
               step.0.less,
             );
-            all = λ q. absurd (false≢true q);
           }
 
     -- a place without one
-    pub laid_skip : (d : Cursor) → Moved t nodes operands (take t.nodes area) roots l.cursor d [] → LaidNext t nodes operands roots v area area l (record { laid = l.laid; cursor = d; done = false })
+    pub laid_skip : (d : Cursor) → Moved t nodes operands (take t.nodes area) roots l.cursor d [] → LaidNext t nodes operands roots v area area l (Some (record { laid = l.laid; cursor = d }))
     laid_skip d step =
         let same = step.grown ∙ append-nil (before t nodes operands (take t.nodes area) roots l.cursor) in
         record {
           long = refl;
           classes = refl;
-          more = λ q. (
+          laid = (
             record { range = step.range; number = rw same b.number; room = omega (arith, b.room, step.less); laid = rw same b.laid },
             step.less,
           );
-          all = λ q. absurd (false≢true q);
         }
 
     pub laid_all : before t nodes operands (take t.nodes area) roots l.cursor ≡ dependencies t nodes operands (take t.nodes area) roots
-        → LaidNext t nodes operands roots v area area l (record { laid = l.laid; cursor = l.cursor; done = true })
-    laid_all e = record { long = refl; classes = refl; more = λ q. absurd (true≢false q); all = λ q. rw e at b.laid }
+        → LaidNext t nodes operands roots v area area l None
+    laid_all e = record { long = refl; classes = refl; laid = rw e at b.laid }
 
 -- ---- the loop that lays all
 
@@ -111,49 +108,38 @@ module _ (t : Counts) (nodes operands roots : List ℕ) (v : ℕ) (area : List �
 pub record LayingAll (t : Counts) (nodes operands roots : List ℕ) (v : ℕ) (area₀ area : List ℕ) (l : Laying) : Type 0 where
   pub long : length area ≡ length area₀
   pub classes : take t.nodes area ≡ take t.nodes area₀
-  pub more : l.done ≡ false → LaidBefore t nodes operands roots v area l
-  pub all : l.done ≡ true → Laid v (most t) (dependencies t nodes operands (take t.nodes area₀) roots) (drop t.nodes area)
-
-abbrev pub to_lay : Counts → List ℕ → List ℕ → List ℕ → ℕ → List ℕ → Laying → ℕ
-to_lay t nodes operands roots v area₀ l = cond l.done 0 (suc (left t nodes operands (take t.nodes area₀) roots l.cursor))
+  pub laid : LaidBefore t nodes operands roots v area l
 
 pub ready_later : (t : Counts) (nodes operands roots : List ℕ) (v : ℕ) (area₀ area : List ℕ) → length area ≡ length area₀ → Ready t nodes operands roots v area₀ → Ready t nodes operands roots v area
 ready_later t nodes operands roots v area₀ area e r =
     record { limited = r.limited; tables = r.tables; listed = r.listed; starts = r.starts; vertices = r.vertices; long = omega (arith, r.long) }
 
 pub laying_starts : (t : Counts) (nodes operands roots : List ℕ) (v : ℕ) (area : List ℕ) → Ready t nodes operands roots v area → Empty t v area
-    → LayingAll t nodes operands roots v area area (record { laid = 0; cursor = record { node = 0; slot = 0; root = 0 }; done = false })
+    → LayingAll t nodes operands roots v area area (record { laid = 0; cursor = record { node = 0; slot = 0; root = 0 } })
 unfolding gather left span_start
 laying_starts t nodes operands roots v area r z =
     let none = before_node t nodes operands (take t.nodes area) roots 0 0 refl (omega arith) in
     record {
       long = refl;
       classes = refl;
-      more = λ q. record {
+      laid = record {
         range = record { node_in = omega arith; root_in = omega arith; slot_in = omega arith; slots_over = λ h. refl; roots_later = λ h. refl };
         number = rw none;
         room = omega (arith, r.starts);
         laid = rw none (laid_none v (most t) (drop t.nodes area) z.zero_words);
       };
-      all = λ q. absurd (false≢true q);
     }
 
-module _ (t : Counts) (nodes operands roots : List ℕ) (v : ℕ) (area₀ area after : List ℕ) (l r : Laying) (was : LayingAll t nodes operands roots v area₀ area l) (step : LaidNext t nodes operands roots v area after l r) where
-  pub laying_more : LayingAll t nodes operands roots v area₀ after r
-  laying_more =
-      record {
-        long = step.long ∙ was.long;
-        classes = step.classes ∙ was.classes;
-        more = λ q. (step.more q).0;
-        all = λ q. rw was.classes at (step.all q);
-      }
+module _ (t : Counts) (nodes operands roots : List ℕ) (v : ℕ) (area₀ area after : List ℕ) (l : Laying) (was : LayingAll t nodes operands roots v area₀ area l) where
+  module _ (r : Laying) (step : LaidNext t nodes operands roots v area after l (Some r)) where
+    pub laying_more : LayingAll t nodes operands roots v area₀ after r
+    laying_more = record { long = step.long ∙ was.long; classes = step.classes ∙ was.classes; laid = step.laid.0 }
 
-  pub laying_less : l.done ≡ false → to_lay t nodes operands roots v area₀ r < to_lay t nodes operands roots v area₀ l
-  laying_less e = rw e (go r.done refl)
-    where
-      go : (b : Bool) → r.done ≡ b → cond b 0 (suc (left t nodes operands (take t.nodes area₀) roots r.cursor)) < suc (left t nodes operands (take t.nodes area₀) roots l.cursor)
-      go true q = omega arith
-      go false q = omega (arith, rw was.classes at (step.more q).1)
+    pub laying_less : left t nodes operands (take t.nodes area₀) roots r.cursor < left t nodes operands (take t.nodes area₀) roots l.cursor
+    laying_less = rw was.classes at step.laid.1
+
+  pub laying_ends : LaidNext t nodes operands roots v area after l None → AllLaid t nodes operands roots v area₀ after
+  laying_ends step = record { long = step.long ∙ was.long; classes = step.classes ∙ was.classes; laid = rw was.classes at step.laid }
 
 -- ---- the derivation over them
 

@@ -1,5 +1,5 @@
 pub mod Cursor
-pub mod CursorLaws
 pub mod Lent
+pub mod CursorLaws
 pub mod Laying
 pub mod LayingLaws

@@ -1,19 +1,18 @@
 // The dependencies of a theory one by one, and the derivation of ranks over them: `each_dependency` and `derive_ranks` of tight/compile.rs.
 #![tactic(auto)]
 
-ghost use Rattle.std.specs.Prelude.{◌≡◌, ◌+◌, ◌*◌, ◌<◌, ◌≤◌, take};
+ghost use Rattle.std.specs.Prelude.{◌≡◌, ◌+◌, ◌*◌, ◌<◌, ◌≤◌, take, MatchOption};
 ghost use Rattle.theory.specs.Node.{node_at};
 ghost use Rattle.graph.specs.Derive.{derive};
 ghost use Rattle.kahn.specs.Area.{part};
 ghost use Rattle.kahn.specs.Answer.{answered};
 ghost use Rattle.ranks.specs.Dependency.{dependencies};
+ghost use Rattle.ranks.specs.Kinds.{Grouped};
 ghost use Rattle.dependency.specs.Lent.{Lent};
-ghost use Rattle.dependency.specs.Cursor.{InRange, Stepped};
-ghost use Rattle.dependency.specs.CursorLaws.{Grouped};
+ghost use Rattle.dependency.specs.Cursor.{before, InRange, Stepped};
 ghost use Rattle.dependency.specs.Laying.{Ready, LaidBefore, LaidNext, Empty, AllLaid};
 
-use compile::Produced;
-use kahn::Derivation;
+use kahn::Cycle;
 use theory::{Counts, Node};
 
 // Where the next dependency is looked for: a node and one of its operands while node is a node, then a root position.
@@ -24,12 +23,11 @@ pub struct Cursor {
     pub root: usize,
 }
 
-// The next dependency, from its source to its target, or a place without one.
+// What stands at a cursor, a dependency from its source to its target or none, and where the next one is looked for.
 #[derive(Clone, Copy)]
-pub enum Dependency {
-    Next(usize, usize, Cursor),
-    Skip(Cursor),
-    End,
+pub struct Step {
+    pub edge: Option<(usize, usize)>,
+    pub next: Cursor,
 }
 
 // At operand c.slot of node c.node, an And or an Or whose span begins at s and has n entries.
@@ -42,31 +40,33 @@ fn operand_dependency(
     c: Cursor,
     s: usize,
     n: usize,
-) -> Dependency
+) -> Step
     requires { (c.node < counts.nodes) × Lent counts nodes.now operands.now roots.now classes.now × InRange counts nodes.now operands.now classes.now roots.now c × Grouped (node_at nodes.now c.node) s n }
-    ensures { Stepped counts nodes.now operands.now classes.now roots.now c result }
+    ensures { Stepped counts nodes.now operands.now classes.now roots.now c result.edge result.next }
 {
     let past = Cursor {
         node: c.node + 1,
         slot: 0,
-        root: c.root,
+        ..c
     };
-    if words::word(classes, c.node) != 1 {
-        return Dependency::Skip(past);
-    }
-    if c.slot >= n {
-        return Dependency::Skip(past);
+    if words::word(classes, c.node) != 1 || c.slot >= n {
+        return Step {
+            edge: None,
+            next: past,
+        };
     }
     let o = words::word(operands, s + c.slot);
-    let after = Cursor {
-        node: c.node,
+    let next = Cursor {
         slot: c.slot + 1,
-        root: c.root,
+        ..c
     };
     if words::word(classes, o) == 1 {
-        Dependency::Next(counts.atoms + o, counts.atoms + c.node, after)
+        Step {
+            edge: Some((counts.atoms + o, counts.atoms + c.node)),
+            next,
+        }
     } else {
-        Dependency::Skip(after)
+        Step { edge: None, next }
     }
 }
 
@@ -77,22 +77,24 @@ fn node_dependency(
     roots: &[u32],
     classes: &[u32],
     c: Cursor,
-) -> Dependency
+) -> Step
     requires { (c.node < counts.nodes) × Lent counts nodes.now operands.now roots.now classes.now × InRange counts nodes.now operands.now classes.now roots.now c }
-    ensures { Stepped counts nodes.now operands.now classes.now roots.now c result }
+    ensures { Stepped counts nodes.now operands.now classes.now roots.now c result.edge result.next }
 {
-    let past = Cursor {
+    let next = Cursor {
         node: c.node + 1,
         slot: 0,
-        root: c.root,
+        ..c
     };
     match theory::view(nodes, c.node) {
-        Node::Atom(a) => Dependency::Next(a, counts.atoms + c.node, past),
-        Node::And(s, n) => operand_dependency(counts, nodes, operands, roots, classes, c, s, n),
-        Node::Or(s, n) => operand_dependency(counts, nodes, operands, roots, classes, c, s, n),
-        Node::False => Dependency::Skip(past),
-        Node::Implies(_, _) => Dependency::Skip(past),
-        Node::Unknown => Dependency::Skip(past),
+        Node::Atom(a) => Step {
+            edge: Some((a, counts.atoms + c.node)),
+            next,
+        },
+        Node::And(s, n) | Node::Or(s, n) => {
+            operand_dependency(counts, nodes, operands, roots, classes, c, s, n)
+        }
+        Node::False | Node::Implies(_, _) | Node::Unknown => Step { edge: None, next },
     }
 }
 
@@ -104,30 +106,32 @@ fn root_dependency(
     roots: &[u32],
     classes: &[u32],
     c: Cursor,
-) -> Dependency
+) -> Step
     requires { (counts.nodes ≤ c.node) × (c.root < counts.roots) × Lent counts nodes.now operands.now roots.now classes.now × InRange counts nodes.now operands.now classes.now roots.now c }
-    ensures { Stepped counts nodes.now operands.now classes.now roots.now c result }
+    ensures { Stepped counts nodes.now operands.now classes.now roots.now c result.edge result.next }
 {
-    let after = Cursor {
-        node: c.node,
-        slot: c.slot,
+    let next = Cursor {
         root: c.root + 1,
+        ..c
     };
     let root = words::word(roots, c.root);
     match compile::produce(counts, nodes, operands, classes, root) {
         Ok(Some(p)) => {
             if p.body == 0 {
-                return Dependency::Skip(after);
+                return Step { edge: None, next };
             }
             let b = p.body - 1;
             if words::word(classes, b) == 1 {
-                Dependency::Next(counts.atoms + b, p.head, after)
+                Step {
+                    edge: Some((counts.atoms + b, p.head)),
+                    next,
+                }
             } else {
-                Dependency::Skip(after)
+                Step { edge: None, next }
             }
         }
-        Ok(None) => Dependency::Skip(after),
-        Err(_) => Dependency::Skip(after),
+        Ok(None) => Step { edge: None, next },
+        Err(_) => Step { edge: None, next },
     }
 }
 
@@ -139,28 +143,27 @@ pub fn next_dependency(
     roots: &[u32],
     classes: &[u32],
     c: Cursor,
-) -> Dependency
+) -> Option<Step>
     requires { Lent counts nodes.now operands.now roots.now classes.now × InRange counts nodes.now operands.now classes.now roots.now c }
-    ensures { Stepped counts nodes.now operands.now classes.now roots.now c result }
+    ensures { MatchOption result (before counts nodes.now operands.now classes.now roots.now c ≡ dependencies counts nodes.now operands.now classes.now roots.now) (λ s. Stepped counts nodes.now operands.now classes.now roots.now c s.edge s.next) }
 {
     if c.node < counts.nodes {
-        return node_dependency(counts, nodes, operands, roots, classes, c);
+        return Some(node_dependency(counts, nodes, operands, roots, classes, c));
     }
     if c.root < counts.roots {
-        return root_dependency(counts, nodes, operands, roots, classes, c);
+        return Some(root_dependency(counts, nodes, operands, roots, classes, c));
     }
-    Dependency::End
+    None
 }
 
-// How many dependencies are laid, and where the next one is looked for; none is left once it is done.
+// How many dependencies are laid, and where the next one is looked for.
 #[derive(Clone, Copy)]
 pub struct Laying {
     pub laid: usize,
     pub cursor: Cursor,
-    pub done: bool,
 }
 
-// Lays the dependency at the cursor, if there is one. The class words of the nodes stand at the front of area; the edges of v vertices are laid behind them.
+// Lays the dependency at the cursor, if there is one; None if none is left. The class words of the nodes stand at the front of area; the edges of v vertices are laid behind them.
 fn lay_next(
     counts: Counts,
     nodes: &[u32],
@@ -169,33 +172,24 @@ fn lay_next(
     area: &mut [u32],
     v: usize,
     l: Laying,
-) -> Laying
+) -> Option<Laying>
     requires { Ready counts nodes.now operands.now roots.now v area.old × LaidBefore counts nodes.now operands.now roots.now v area.old l }
     ensures { LaidNext counts nodes.now operands.now roots.now v area.old area.new l result }
 {
     let m = counts.operands + counts.nodes + counts.roots;
     let n = counts.nodes;
-    let cursor = l.cursor;
-    match next_dependency(counts, nodes, operands, roots, &area[..n], cursor) {
-        Dependency::Next(source, target, next) => {
-            kahn::lay(&mut area[n..], v, m, l.laid, source, target);
-            Laying {
-                laid: l.laid + 1,
-                cursor: next,
-                done: false,
-            }
-        }
-        Dependency::Skip(next) => Laying {
-            laid: l.laid,
-            cursor: next,
-            done: false,
-        },
-        Dependency::End => Laying {
-            laid: l.laid,
-            cursor,
-            done: true,
-        },
-    }
+    let step = next_dependency(counts, nodes, operands, roots, &area[..n], l.cursor)?;
+    let Some((source, target)) = step.edge else {
+        return Some(Laying {
+            cursor: step.next,
+            ..l
+        });
+    };
+    kahn::lay(&mut area[n..], v, m, l.laid, source, target);
+    Some(Laying {
+        laid: l.laid + 1,
+        cursor: step.next,
+    })
 }
 
 // Lays all dependencies, in order.
@@ -217,10 +211,9 @@ fn lay_all(
             slot: 0,
             root: 0,
         },
-        done: false,
     };
-    while !l.done {
-        l = lay_next(counts, nodes, operands, roots, area, v, l);
+    while let Some(next) = lay_next(counts, nodes, operands, roots, area, v, l) {
+        l = next;
     }
 }
 
@@ -232,7 +225,7 @@ pub fn derive_ranks(
     roots: &[u32],
     area: &mut [u32],
     v: usize,
-) -> Derivation
+) -> Result<(), Cycle>
     requires { Ready counts nodes.now operands.now roots.now v area.old × Empty counts v area.old }
     ensures area_after { answered result (part (counts.nodes + 2 * v) counts.atoms area.new) ≡ derive counts.atoms v (dependencies counts nodes.now operands.now (take counts.nodes area.old) roots.now) }
     ensures area_unchanged { take counts.nodes area.new ≡ take counts.nodes area.old }

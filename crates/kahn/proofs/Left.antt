@@ -1,28 +1,60 @@
--- The search for the lowest atom left over, from a on.
+-- The first degree of an atom that is not 0 is that of the lowest atom left over.
 -- Assumes nothing.
-use Prim.Native.Nat.{ℕ, suc, ◌+◌, ◌-◌, ◌≤◌, ◌<◌}
+use Prim.Native.Nat.{ℕ, ◌+◌, ◌≤◌, ◌<◌}
 use native.Mathlib.Omega.{arith}
-use mathlib.Core.Path.{◌≡◌, ap, sym, ◌∙◌}
-use mathlib.Core.Bool.{Bool, true, false, not}
-use lib.Dec.{eqb}
-use borrow.Author.Tests.{eq-eqb, ne_eqb}
-use Rattle.base.specs.Places.{lowest, lowest_is, lowest_here, lowest_past}
+use mathlib.Core.Path.{◌≡◌, refl, sym, ap, ◌∙◌}
+use mathlib.Core.Bool.{Bool, true, false, not, cond}
+use mathlib.Core.List.{List}
+use lib.Dec.{eqb, ltb}
+use lib.ListN.{length, get_or}
+use borrow.Author.Tests.{ltb-false}
+use Rattle.std.specs.Prelude.{position, Some, None}
+use Rattle.std.specs.List.{position_or_len}
+use Rattle.std.proofs.lemmas.List.Quantifiers.{position-Some}
+use Rattle.std.proofs.lemmas.List.Sums.{fails_before_first}
+use Rattle.base.specs.Places.{lowest, lowest-only}
+use Rattle.kahn.specs.Area.{part}
+use Rattle.kahn.proofs.Sections.{part_at, part_long}
 
-module _ (p : ℕ → Bool) (n a : ℕ) (rest : lowest p 0 n ≡ lowest p a (n - a)) where
-  turn : a < n → n - a ≡ suc (n - (a + 1))
-  turn l = omega arith
+module _ (n A : ℕ) (area : List ℕ) (long : n + A ≤ length area) where
+  left : ℕ → Bool
+  left d = not (eqb d 0)
 
-  pub left_here : a < n → p a ≡ true → a ≡ lowest p 0 n
-  left_here l e = sym (rest ∙ rw (turn l) (lowest_here p a (n - (a + 1)) e))
+  degrees_long : length (part n A area) ≡ A
+  degrees_long = part_long n A area long
 
-  pub left_past : a < n → p a ≡ false → lowest p 0 n ≡ lowest p (a + 1) (n - (a + 1))
-  left_past l e = rest ∙ rw (turn l) (lowest_past p a (n - (a + 1)) e)
+  -- a degree read in its place
+  read : (v : ℕ) (b : Bool) → v < A → not (eqb (get_or (part n A area) v 0) 0) ≡ b → not (eqb (get_or area (n + v) 0) 0) ≡ b
+  read v b l e = ap (λ d. not (eqb d 0)) (sym (part_at n A area v l)) ∙ e
 
-  pub left_none : n ≤ a → a ≤ n → n ≡ lowest p 0 n
-  left_none l m = omega (arith, rest, (lowest_is p a (n - a)).from, (lowest_is p a (n - a)).within)
+  pub left_some : (a : ℕ) → position (λ d. not (eqb d 0)) (part n A area) ≡ Some a → (a < A) × (a ≡ lowest (λ v. not (eqb (get_or area (n + v) 0) 0)) 0 A)
+  left_some a e =
+      let h = position-Some (λ d. not (eqb d 0)) (part n A area) a 0 e in
+      let low : a < A = omega (arith, h.0, degrees_long) in (
+        low,
+        lowest-only _ 0 A a (record {
+          from = omega arith;
+          within = omega arith;
+          before = λ k b l. read k false (omega arith) (h.2 k l);
+          here = λ l. read a true low h.1;
+        }),
+      )
 
-pub left_test : (w x : ℕ) → w ≡ x → (w ≡ 0 → ⊥) → not (eqb x 0) ≡ true
-left_test w x e d = ap not (ne_eqb x 0 (λ z. d (e ∙ z)))
+  pub left_none : position (λ d. not (eqb d 0)) (part n A area) ≡ None → A ≡ lowest (λ v. not (eqb (get_or area (n + v) 0) 0)) 0 A
+  left_none e =
+      lowest-only _ 0 A A (record {
+        from = omega arith;
+        within = omega arith;
+        before = λ k b l. read k false l (fails_before_first (λ d. not (eqb d 0)) (part n A area) k 0 (omega (arith, all, degrees_long)));
+        here = λ l. absurd (omega arith);
+      })
+    where
+      first : ℕ
+      first = position_or_len (λ d. not (eqb d 0)) (part n A area)
 
-pub done_test : (w x : ℕ) → w ≡ x → w ≡ 0 → not (eqb x 0) ≡ false
-done_test w x e z = ap not (eq-eqb x 0 (sym e ∙ z))
+      all : length (part n A area) ≤ first
+      all = go (ltb first (length (part n A area))) refl e
+        where
+          go : (b : Bool) → ltb first (length (part n A area)) ≡ b → cond b (Some first) None ≡ None → length (part n A area) ≤ first
+          go true t f = cc
+          go false t f = ltb-false _ _ t

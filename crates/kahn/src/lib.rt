@@ -1,8 +1,7 @@
 // The derivation of ranks by Kahn's removal, over edges linked in a lent work area of n vertices and m edges; specs/Area has its sections.
 #![tactic(auto)]
 
-ghost use Rattle.std.specs.Prelude.{◌≡◌, not, List, ◌+◌, ◌*◌, ◌<◌, ◌≤◌, eqb, ltb, length, get_or};
-ghost use Rattle.base.specs.Places.{lowest};
+ghost use Rattle.std.specs.Prelude.{◌≡◌, not, List, ◌+◌, ◌*◌, ◌<◌, ◌≤◌, eqb, ltb, length, get_or, position};
 ghost use Rattle.graph.specs.Edge.{Edge, edge, one};
 ghost use Rattle.graph.specs.Removal as removal;
 ghost use Rattle.graph.specs.Derive as graph;
@@ -12,11 +11,10 @@ ghost use Rattle.kahn.specs.Seeding.{pushing, pushed, Seeding};
 ghost use Rattle.kahn.specs.Draining.{Draining};
 ghost use Rattle.kahn.specs.Answer.{answered};
 
-// Whether ranks were derived; if not, the lowest atom on or behind a cycle.
+// Why no ranks were derived: the lowest atom on or behind a positive cycle.
 #[derive(Clone, Copy)]
-pub enum Derivation {
-    Ranks,
-    Cycle(usize),
+pub struct Cycle {
+    pub atom: usize,
 }
 
 // Lays edge number i.
@@ -50,10 +48,8 @@ fn seed(area: &mut [u32], n: usize) -> usize
     ensures { Seeding n n result area.old area.new }
 {
     let mut q = 0;
-    let mut v = 0;
-    while v < n {
+    for v in 0..n {
         q = push(area, n, q, v);
-        v += 1;
     }
     q
 }
@@ -61,7 +57,7 @@ fn seed(area: &mut [u32], n: usize) -> usize
 fn cost(atoms: usize, target: usize) -> usize
     ensures { (result ≡ one (ltb target atoms)) × (result ≤ 1) }
 {
-    if target < atoms { 1 } else { 0 }
+    usize::from(target < atoms)
 }
 
 // Goes over one edge: its target's rank and degree, and the queue.
@@ -74,7 +70,7 @@ fn relax(area: &mut [u32], atoms: usize, n: usize, q: usize, source: usize, targ
     let degree = words::word(area, n + target);
     let before = words::word(area, 2 * n + target);
     let above = words::word(area, 2 * n + source) + cost(atoms, target);
-    let rank = words::greater(before, above);
+    let rank = before.max(above);
     area[n + target] = (degree - 1) as u32;
     area[2 * n + target] = rank as u32;
     push(area, n, q, target)
@@ -89,6 +85,7 @@ fn spread(area: &mut [u32], atoms: usize, n: usize, m: usize, c: usize, queued: 
     let source = words::word(area, 3 * n + c);
     let mut q = queued;
     let mut link = words::word(area, source);
+    // A walk along links, which counts nothing.
     while link != 0 {
         let i = link - 1;
         let target = words::word(area, 4 * n + i);
@@ -107,6 +104,7 @@ fn drain(area: &mut [u32], atoms: usize, n: usize, m: usize, queued: usize) -> u
 {
     let mut q = queued;
     let mut c = 0;
+    // The queue grows while it is gone through, so its end is no bound of a counted loop.
     while c < q {
         q = spread(area, atoms, n, m, c, q);
         c += 1;
@@ -114,33 +112,24 @@ fn drain(area: &mut [u32], atoms: usize, n: usize, m: usize, queued: usize) -> u
     q
 }
 
-// The lowest atom whose degree is not 0; `atoms` if there is none.
-fn lowest_left(area: &[u32], atoms: usize, n: usize) -> usize
+// The lowest atom whose degree is not 0.
+fn lowest_left(area: &[u32], atoms: usize, n: usize) -> Option<usize>
     requires { (atoms ≤ n) × (2 * n ≤ length area.now) × (n ≤ 327680) }
-    ensures { result ≡ lowest (λ v. not (eqb (get_or area.now (n + v) 0) 0)) 0 atoms }
+    ensures { result ≡ position (λ d. not (eqb d 0)) (part n atoms area.now) }
 {
-    let mut a = 0;
-    while a < atoms {
-        if words::word(area, n + a) != 0 {
-            return a;
-        }
-        a += 1;
-    }
-    atoms
+    area[n..n + atoms].iter().position(|degree| *degree != 0)
 }
 
 // Derives the ranks of the first `atoms` vertices from the edges laid.
-pub fn derive(area: &mut [u32], atoms: usize, n: usize, m: usize) -> Derivation
+pub fn derive(area: &mut [u32], atoms: usize, n: usize, m: usize) -> Result<(), Cycle>
     requires { Sized n m area.old × (atoms ≤ n) × ((es : List Edge) × Laid n m es area.old) }
     ensures area_after { (es : List Edge) → Laid n m es area.old → answered result (part (2 * n) atoms area.new) ≡ graph.derive atoms n es }
     ensures links_kept { LinksKept n area.old area.new }
 {
     let seeded = seed(area, n);
-    let _ = drain(area, atoms, n, m, seeded);
-    let a = lowest_left(area, atoms, n);
-    if a < atoms {
-        Derivation::Cycle(a)
-    } else {
-        Derivation::Ranks
+    drain(area, atoms, n, m, seeded);
+    match lowest_left(area, atoms, n) {
+        Some(atom) => Err(Cycle { atom }),
+        None => Ok(()),
     }
 }

@@ -1,6 +1,7 @@
 -- The public calls: from the buffers as lent to an entered theory.
 -- Assumes nothing.
-use Rattle.std.specs.Prelude.{ℕ, ◌≡◌, refl, Bool, true, false, cond, ◌&&◌, List, eqb, length, take, replicate, Ok, Err}
+use Rattle.std.specs.Prelude.{ℕ, ◌≤◌, ◌≡◌, refl, Bool, true, false, cond, ◌&&◌, List, eqb, length, take, replicate, Option, Some, None, option_copied, unwrap_or, Ok, Err}
+use Rattle.std.specs.Borrow.{Bor}
 use Rattle.std.proofs.Common.{arith, ◌∙◌, take_all, eqb-true, ⊎_elim}
 use Rattle.std.proofs.Math.Path.{ap, sym}
 use Rattle.std.proofs.lemmas.List.{length-replicate, get_or-replicate}
@@ -21,7 +22,7 @@ use Rattle.plan.specs.Buffers.{short_buffer, long_enough}
 use Rattle.plan.specs.Judged.{judged, derived, acyclic, plan_judged, certify_judged}
 use Rattle.plan.specs.Outcome.{Outcome, outcome, planned, lengths, plan_outcome, certify_outcome}
 use Rattle.plan.specs.JudgedIn.{Zero}
-use Rattle.plan.specs.Finished.{Entered, ranked_by, derived_ranks, accepted_by}
+use Rattle.plan.specs.Finished.{Entered, judged_by, ranks_by, accepted_by}
 
 or_else_assoc : (a b c : Admission) → or_else (or_else a b) c ≡ or_else a (or_else b c)
 or_else_assoc (Ok u) b c = refl
@@ -41,6 +42,26 @@ accepted-long t nodes operands roots proposed e =
 pub accepted_take : (t : Counts) (proposed : List ℕ) → length proposed ≡ t.atoms → take t.atoms proposed ≡ proposed
 accepted_take t proposed e = take_all t.atoms proposed (omega arith)
 
+-- an accepted theory's ranks: those proposed, or those that stand where they are derived
+module _ (t : Counts) (nodes operands roots : List ℕ) (proposed : Option (Bor (List ℕ))) (made : Bor (List ℕ)) (e : judged_by t nodes operands roots (option_copied proposed) ≡ admitted) where
+  given_long : (p : List ℕ) → option_copied proposed ≡ Some p → length p ≡ t.atoms
+  unfolding judged_by accepted_by
+  given_long p i = accepted-long t nodes operands roots p (rw i at e)
+
+  pub source_enough : t.atoms ≤ length made.now → t.atoms ≤ length (unwrap_or proposed made).now
+  source_enough l = go proposed refl
+    where
+      go : (o : Option (Bor (List ℕ))) → proposed ≡ o → t.atoms ≤ length (unwrap_or o made).now
+      go None i = l
+      go (Some p) i = omega (arith, given_long p.now (ap option_copied i))
+
+  pub source_ranks : (proposed ≡ None → take t.atoms made.now ≡ ranks_by t nodes operands roots None) → take t.atoms (unwrap_or proposed made).now ≡ ranks_by t nodes operands roots (option_copied proposed)
+  source_ranks l = go proposed refl
+    where
+      go : (o : Option (Bor (List ℕ))) → proposed ≡ o → take t.atoms (unwrap_or o made).now ≡ ranks_by t nodes operands roots (option_copied o)
+      go None i = l i
+      go (Some p) i = accepted_take t p.now (given_long p.now (ap option_copied i))
+
 zero_list : (n : ℕ) → Zero (replicate n 0)
 zero_list n = record { at = λ k. ⊎_elim (λ l. get_or-replicate {A = ℕ} n k 0 0 l) (λ m. get_or-eq_default (replicate n 0) 0 (omega (arith, length-replicate {A = ℕ} n 0))) (below_or k n) }
 
@@ -52,6 +73,11 @@ module _ (t : Counts) (nodes operands roots : List ℕ) where
   again ps rs us ws (Err r) ranked = rw (length-replicate {A = ℕ} (length ws) 0)
 
 module _ (t : Counts) (nodes operands roots ps rs us ws : List ℕ) where
+  -- what a call leaves, with proposed ranks or none
+  abbrev pub outcome_by : Option (List ℕ) → Outcome
+  outcome_by None = plan_outcome t nodes operands roots ps rs us ws
+  outcome_by (Some proposed) = certify_outcome t nodes operands roots proposed ps rs us ws
+
   -- what `enter` answers
   abbrev pub entry : Admission
   entry = or_else (limits_of t) (or_else (short_buffer t (lengths t nodes operands roots ps rs us ws)) (admission t nodes operands roots))
@@ -67,13 +93,10 @@ module _ (t : Counts) (nodes operands roots ps rs us ws : List ℕ) where
       ∙ sym (or_else_assoc (limits_of t) _ _)
 
   module _ (a : Admission) (e : a ≡ or_else (limits_of t) (or_else (short_buffer t (lengths t nodes operands roots ps rs us ws)) (admission t nodes operands roots))) where
-    pub plan_refused : (r : Refusal) → a ≡ Err r → outcome (Err r) ps rs us (replicate (length ws) 0) ≡ plan_outcome t nodes operands roots ps rs us ws
-    unfolding plan_outcome planned plan_judged
-    plan_refused r q = rw (split (acyclic t nodes operands roots (derived t nodes operands roots)), sym e ∙ q)
-
-    pub certify_refused : (proposed : List ℕ) (r : Refusal) → a ≡ Err r → outcome (Err r) ps rs us (replicate (length ws) 0) ≡ certify_outcome t nodes operands roots proposed ps rs us ws
-    unfolding certify_outcome planned certify_judged
-    certify_refused proposed r q = rw (split (rank_check t nodes operands (class_words nodes operands t.nodes) roots proposed), sym e ∙ q)
+    pub entry_refused : (proposed : Option (List ℕ)) (r : Refusal) → a ≡ Err r → outcome (Err r) ps rs us (replicate (length ws) 0) ≡ outcome_by proposed
+    unfolding plan_outcome certify_outcome planned plan_judged certify_judged
+    entry_refused None r q = rw (split (acyclic t nodes operands roots (derived t nodes operands roots)), sym e ∙ q)
+    entry_refused (Some proposed) r q = rw (split (rank_check t nodes operands (class_words nodes operands t.nodes) roots proposed), sym e ∙ q)
 
     module _ (q : a ≡ admitted) where
       all : or_else (limits_of t) (or_else (short_buffer t (lengths t nodes operands roots ps rs us ws)) (admission t nodes operands roots)) ≡ admitted
@@ -98,13 +121,9 @@ module _ (t : Counts) (nodes operands roots ps rs us ws : List ℕ) where
             work_zero = zero_list (length ws);
           }
 
-      pub plan-entered : (o : Outcome) → o ≡ planned t nodes operands roots ps rs us (replicate (length ws) 0) (ranked_by t nodes operands roots) (derived_ranks t nodes operands roots)
-          → o ≡ plan_outcome t nodes operands roots ps rs us ws
-      unfolding plan_outcome plan_judged ranked_by derived_ranks
-      plan-entered o w = w ∙ rw (split (acyclic t nodes operands roots (derived t nodes operands roots)), sym e ∙ q) (again t nodes operands roots ps rs us ws _ _)
-
-      pub certify-entered : (proposed : List ℕ) (o : Outcome) → o ≡ planned t nodes operands roots ps rs us (replicate (length ws) 0) (accepted_by t nodes operands roots proposed) proposed
-          → o ≡ certify_outcome t nodes operands roots proposed ps rs us ws
-      unfolding certify_outcome certify_judged accepted_by
-      certify-entered proposed o w =
+      pub entered_outcome : (proposed : Option (List ℕ)) (o : Outcome)
+          → o ≡ planned t nodes operands roots ps rs us (replicate (length ws) 0) (judged_by t nodes operands roots proposed) (ranks_by t nodes operands roots proposed) → o ≡ outcome_by proposed
+      unfolding plan_outcome certify_outcome plan_judged certify_judged judged_by
+      entered_outcome None o w = w ∙ rw (split (acyclic t nodes operands roots (derived t nodes operands roots)), sym e ∙ q) (again t nodes operands roots ps rs us ws _ _)
+      entered_outcome (Some proposed) o w =
           w ∙ rw (split (rank_check t nodes operands (class_words nodes operands t.nodes) roots proposed), sym e ∙ q) (again t nodes operands roots ps rs us ws _ proposed)

@@ -1,6 +1,6 @@
 -- A planning call once its theory is entered: what it asks, and what it leaves.
 -- Assumes nothing.
-use Rattle.std.specs.Prelude.{ℕ, ◌+◌, ◌*◌, ◌-◌, ◌≤◌, ◌≡◌, refl, List, ◌++◌, length, take, drop, replicate, Ok, Err}
+use Rattle.std.specs.Prelude.{ℕ, ◌+◌, ◌*◌, ◌-◌, ◌≤◌, ◌≡◌, refl, List, ◌++◌, length, take, drop, Option, Some, None, Ok, Err}
 use Rattle.std.proofs.Common.{arith, ap, sym, ◌∙◌, length-drop, get_or-drop, take-take, drop-drop, length-take-le}
 use Rattle.base.specs.Front.{front}
 use Rattle.theory.specs.Admission.{or_else, span_start, Admission, admitted}
@@ -16,8 +16,8 @@ use Rattle.kahn.specs.Area.{part}
 use Rattle.dependency.specs.Laying.{Ready}
 use Rattle.dependency.specs.LayingLaws.{tail_long, tail_back}
 use Rattle.plan.specs.Buffers.{readers_length, work_length}
-use Rattle.plan.specs.Judged.{derived, acyclic}
-use Rattle.plan.specs.Outcome.{outcome, planned, ranks_of}
+use Rattle.plan.specs.Judged.{derived, ranks_judged}
+use Rattle.plan.specs.Outcome.{outcome, planned, zeroed, ranks_of}
 use Rattle.plan.specs.JudgedIn.{Zero}
 
 -- what `finish` leaves
@@ -40,28 +40,26 @@ pub record Entered (t : Counts) (nodes operands roots : List ℕ) (ps rs us : �
   pub work_zero : Zero work
 
 module _ (t : Counts) (nodes operands roots : List ℕ) where
-  unfoldable pub ranked_by : Admission
-  ranked_by = or_else (roots_supported t nodes operands (class_words nodes operands t.nodes) roots) (acyclic t nodes operands roots (derived t nodes operands roots))
+  -- ranks proposed, if there are any, are taken; else they are derived
+  unfoldable pub judged_by : Option (List ℕ) → Admission
+  judged_by proposed = or_else (roots_supported t nodes operands (class_words nodes operands t.nodes) roots) (ranks_judged t nodes operands roots proposed)
 
-  unfoldable pub derived_ranks : List ℕ
-  derived_ranks = ranks_of t nodes operands roots (derived t nodes operands roots)
+  abbrev pub ranks_by : Option (List ℕ) → List ℕ
+  ranks_by None = ranks_of t nodes operands roots (derived t nodes operands roots)
+  ranks_by (Some proposed) = proposed
 
   unfoldable pub accepted_by : List ℕ → Admission
   accepted_by proposed = or_else (roots_supported t nodes operands (class_words nodes operands t.nodes) roots) (rank_check t nodes operands (class_words nodes operands t.nodes) roots proposed)
 
   module _ (ps rs us work : List ℕ) where
-    pub planned_refused : (j : Admission) (ranked : List ℕ) (r : Refusal) (last : List ℕ) → length last ≡ length work → j ≡ Err r
-        → outcome (Err r) ps rs us (replicate (length last) 0) ≡ planned t nodes operands roots ps rs us work j ranked
+    pub planned_refused : (j : Admission) (ranked : List ℕ) (r : Refusal) → j ≡ Err r → outcome (Err r) ps rs us (zeroed work) ≡ planned t nodes operands roots ps rs us work j ranked
     unfolding planned
-    planned_refused j ranked r last l e = rw (e, l)
+    planned_refused j ranked r e = rw e
 
-    pub planned_done : (j : Admission) (ranked classes source ps' rs' us' last : List ℕ) (p : ℕ) → length last ≡ length work → j ≡ admitted
-        → classes ≡ class_words nodes operands t.nodes → take t.atoms source ≡ ranked
-        → Finished t nodes operands roots classes source ps rs us ps' rs' us' p
-        → outcome (Ok p) ps' rs' us' (replicate (length last) 0) ≡ planned t nodes operands roots ps rs us work j ranked
+    pub planned_done : (j : Admission) (ranked classes source ps' rs' us' : List ℕ) (p : ℕ) → j ≡ admitted → classes ≡ class_words nodes operands t.nodes → take t.atoms source ≡ ranked
+        → Finished t nodes operands roots classes source ps rs us ps' rs' us' p → outcome (Ok p) ps' rs' us' (zeroed work) ≡ planned t nodes operands roots ps rs us work j ranked
     unfolding planned
-    planned_done j ranked classes source ps' rs' us' last p l e c s f =
-        rw (e, f.readers, f.producers, f.ranks, f.number, s, c, l)
+    planned_done j ranked classes source ps' rs' us' p e c s f = rw (e, f.readers, f.producers, f.ranks, f.number, s, c)
 
 -- ---- the sections of the work area
 

@@ -1,6 +1,6 @@
 -- The refusals of planning in document 01's order: 3 by counts, 9, then 1, 6, 4, 5 by node and 7 by root, 10 and 11 by root, then 12, or 13 and 14.
 -- Assumes nothing.
-use Rattle.std.specs.Prelude.{ℕ, ◌+◌, List, Err}
+use Rattle.std.specs.Prelude.{ℕ, ◌+◌, List, Option, Some, None, Err}
 use Rattle.graph.specs.Derive.{Derived, ranks, cycle, derive}
 use Rattle.theory.specs.Limits.{limits_of}
 use Rattle.theory.specs.Admission.{or_else, admission, Admission, admitted}
@@ -28,6 +28,11 @@ module _ (t : Counts) (nodes operands roots : List ℕ) where
   abbrev pub acyclic : Derived → Admission
   acyclic (ranks rs) = admitted
   acyclic (cycle a) = Err (PositiveCycle a)
+
+  -- the ranks proposed are checked; else they are derived
+  abbrev pub ranks_judged : Option (List ℕ) → Admission
+  ranks_judged None = acyclic derived
+  ranks_judged (Some proposed) = rank_check t nodes operands classes roots proposed
 
   -- of `plan`, and of `certify` with proposed ranks
   unfoldable pub plan_judged : Lengths → Admission

@@ -1,5 +1,4 @@
 pub mod Buffers
-pub mod Filled
 pub mod Prepared
 pub mod Written
 pub mod Judged

@@ -18,6 +18,7 @@ use Rattle.theory.specs.declared.Node.{Node}
 use Rattle.theory.specs.declared.Node.TheVariants.{Atom, False, Implies, And, Or, Unknown}
 use Rattle.compile.specs.ClassWord.{class_word, class_words}
 use Rattle.ranks.specs.Classed.{Classed}
+use Rattle.ranks.specs.Kinds.{Grouped, of_and, of_or, Bare, bare_false, bare_implies, bare_unknown}
 
 -- of a node whose class is Positive or not
 unfoldable pub highest_by : List ℕ → List ℕ → Bool → (ℕ → ℕ) → Node → ℕ
@@ -36,6 +37,17 @@ highest_by_lem ranks operands class h (Implies l r) = refl
 highest_by_lem ranks operands class h (And s c) = refl
 highest_by_lem ranks operands class h (Or s c) = refl
 highest_by_lem ranks operands class h Unknown = refl
+
+pub highest_group : (ranks operands : List ℕ) (p : Bool) (h : ℕ → ℕ) (node : Node) (s c : ℕ) → Grouped node s c → highest_by ranks operands p h node ≡ cond p (greatest (map h (span operands s c))) 0
+unfolding highest_by
+highest_group ranks operands p h node s c of_and = refl
+highest_group ranks operands p h node s c of_or = refl
+
+pub highest_bare : (ranks operands : List ℕ) (p : Bool) (h : ℕ → ℕ) (node : Node) → Bare node → highest_by ranks operands p h node ≡ 0
+unfolding highest_by
+highest_bare ranks operands p h node bare_false = refl
+highest_bare ranks operands p h node bare_implies = refl
+highest_bare ranks operands p h node bare_unknown = refl
 
 pub word-positive : (c : Class) → eqb (class_word c) 1 ≡ is_positive c
 word-positive frozen = refl

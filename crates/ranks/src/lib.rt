@@ -10,8 +10,8 @@ ghost use Rattle.ranks.specs.RankCheck.{body_order, produced_order, order_by, ra
 ghost use Rattle.ranks.specs.Classed.{Classed};
 ghost use Rattle.ranks.specs.MadeIn.{MadeIn};
 
-use compile::Produced;
-use theory::{Admission, Counts, Node, Refusal};
+use compile::Producer;
+use theory::{Counts, Node, Refusal};
 
 // The highest rank of node k, whose class word is class, from those of lower nodes.
 fn highest_node(
@@ -29,23 +29,14 @@ fn highest_node(
 {
     match theory::view(nodes, k) {
         Node::Atom(a) => words::word(ranks, a),
-        Node::And(s, c) => {
+        Node::And(s, c) | Node::Or(s, c) => {
             if class == 1 {
                 compile::maximum_operand(operands, high, s, c)
             } else {
                 0
             }
         }
-        Node::Or(s, c) => {
-            if class == 1 {
-                compile::maximum_operand(operands, high, s, c)
-            } else {
-                0
-            }
-        }
-        Node::False => 0,
-        Node::Implies(_, _) => 0,
-        Node::Unknown => 0,
+        Node::False | Node::Implies(_, _) | Node::Unknown => 0,
     }
 }
 
@@ -61,18 +52,21 @@ fn fill_highest(
     requires { (counts.nodes ≤ v) × (v + counts.nodes ≤ length area.old) × (counts.atoms ≤ length ranks.now) × NodeTables counts nodes.now operands.now × Classed counts nodes.now operands.now (take v area.old) }
     ensures { area.new ≡ take v area.old ++ (node_highests (λ a. get_or ranks.now a 0) nodes.now operands.now counts.nodes ++ drop (v + counts.nodes) area.old) }
 {
-    let n = counts.nodes;
-    let mut k = 0;
-    while k < n {
+    for k in 0..counts.nodes {
         let class = words::word(area, k);
         let high = highest_node(counts, nodes, operands, ranks, &area[v..], class, k);
         area[v + k] = high as u32;
-        k += 1;
     }
 }
 
 // Refusal 14 of one producer: its body's highest rank, behind the first v words, is not below its head's.
-fn body_order(area: &[u32], v: usize, ranks: &[u32], head: usize, body: usize) -> Result<(), Refusal>
+fn body_order(
+    area: &[u32],
+    v: usize,
+    ranks: &[u32],
+    head: usize,
+    body: usize,
+) -> Result<(), Refusal>
     requires { (body ≤ v) × (v + body ≤ length area.now) × (head < length ranks.now) }
     ensures { result ≡ body_order (take v area.now) (drop v area.now) ranks.now head body }
 {
@@ -90,6 +84,7 @@ fn body_order(area: &[u32], v: usize, ranks: &[u32], head: usize, body: usize) -
     }
 }
 
+// Refusal 14 of one root, which may make no producer.
 fn produced_order(
     counts: Counts,
     area: &[u32],
@@ -101,8 +96,8 @@ fn produced_order(
     ensures { result ≡ produced_order (take v area.now) (drop v area.now) ranks.now made }
 {
     match made {
-        Ok(None) => Ok(()),
         Ok(Some(p)) => body_order(area, v, ranks, p.head, p.body),
+        Ok(None) => Ok(()),
         Err(_) => Ok(()),
     }
 }
@@ -120,16 +115,10 @@ fn rank_order(
     requires { (counts.nodes ≤ v) × (v + counts.nodes ≤ length area.now) × (counts.atoms ≤ length ranks.now) × NodeTables counts nodes.now operands.now × RootTable counts roots.now }
     ensures { result ≡ order_by counts nodes.now operands.now (take v area.now) roots.now (drop v area.now) ranks.now }
 {
-    let n = counts.roots;
-    let mut i = 0;
-    while i < n {
+    for i in 0..counts.roots {
         let root = words::word(roots, i);
         let made = compile::produce(counts, nodes, operands, &area[..v], root);
-        let ordered = produced_order(counts, area, v, ranks, made);
-        if let Err(r) = ordered {
-            return Err(r);
-        }
-        i += 1;
+        produced_order(counts, area, v, ranks, made)?;
     }
     Ok(())
 }
@@ -148,13 +137,9 @@ pub fn rank_check(
     ensures value { result ≡ rank_check counts nodes.now operands.now (take v area.old) roots.now ranks.now }
     ensures area_unchanged { take v area.new ≡ take v area.old }
 {
-    if ranks.len() != counts.atoms {
+    if ranks.len() != counts.atoms || !theory::all_below(ranks, counts.atoms, 0, counts.atoms) {
         return Err(Refusal::RankShape);
     }
-    if theory::all_below(ranks, counts.atoms, 0, counts.atoms) {
-        fill_highest(counts, nodes, operands, ranks, area, v);
-        rank_order(counts, nodes, operands, roots, ranks, area, v)
-    } else {
-        Err(Refusal::RankShape)
-    }
+    fill_highest(counts, nodes, operands, ranks, area, v);
+    rank_order(counts, nodes, operands, roots, ranks, area, v)
 }

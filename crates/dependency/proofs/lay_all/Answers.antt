@@ -1,21 +1,21 @@
-use borrow.Author.Tests.{not-true, not-false}
-use Rattle.dependency.specs.LayingLaws.{ready_later, laying_starts, laying_more, laying_less}
+use mathlib.Core.Path.{◌∙◌}
+use Rattle.dependency.specs.LayingLaws.{ready_later, laying_starts, laying_more, laying_less, laying_ends}
 use Rattle.dependency.proofs.lay_all.Goals as goal
 
-pub loop-l-init : goal.loop-l-init
-loop-l-init c = laying_starts _ _ _ _ _ _ c.requires.0 c.requires.1
+pub loop-next-init : goal.loop-next-init
+loop-next-init c = laying_starts _ _ _ _ _ _ c.requires.0 c.requires.1
 
-pub lay_next-l-requires : goal.lay_next-l-requires
-lay_next-l-requires c = (ready_later _ _ _ _ _ _ _ c.loop-l.invariant.long c.requires.0, c.loop-l.invariant.more (not-true _ c.loop-l-test.true))
+pub lay_next-requires : goal.lay_next-requires
+lay_next-requires c = (ready_later _ _ _ _ _ _ _ c.loop-next.invariant.long c.requires.0, c.loop-next.invariant.laid)
 
-pub loop-l-smaller : goal.loop-l-smaller
-loop-l-smaller c = laying_less _ _ _ _ _ _ _ _ _ _ c.loop-l.invariant c.lay_next-l.ensures (not-true _ c.loop-l-test.true)
+pub loop-next-smaller : goal.loop-next-smaller
+loop-next-smaller c = laying_less _ _ _ _ _ _ _ _ _ c.loop-next.invariant _ c.in-Some.ensures
 
-pub loop-l-preserved : goal.loop-l-preserved
-loop-l-preserved c = laying_more _ _ _ _ _ _ _ _ _ _ c.loop-l.invariant c.lay_next-l.ensures
+pub loop-next-preserved : goal.loop-next-preserved
+loop-next-preserved c = laying_more _ _ _ _ _ _ _ _ _ c.loop-next.invariant _ c.in-Some.ensures
 
 pub shape_of-area : goal.shape_of-area
-shape_of-area c = c.loop-l.invariant.long
+shape_of-area c = c.lay_next.ensures.long ∙ c.loop-next.invariant.long
 
 pub returns : goal.returns
-returns c = record { long = c.loop-l.invariant.long; classes = c.loop-l.invariant.classes; laid = c.loop-l.invariant.all (not-false _ c.loop-l-test.false) }
+returns c = laying_ends _ _ _ _ _ _ _ _ _ c.loop-next.invariant c.in_default.ensures

@@ -1,23 +1,15 @@
 use native.Mathlib.Omega.{arith}
-use mathlib.Core.Path.{sym, ◌∙◌}
+use mathlib.Core.Path.{refl, sym, ◌∙◌}
 use Rattle.theory.specs.Formed.{atom_below}
-use Rattle.dependency.specs.CursorLaws.{of_and, of_or, bare_false, bare_implies, bare_unknown, next_atom, next_bare}
+use Rattle.ranks.specs.Kinds.{grouped, bare}
+use Rattle.dependency.specs.CursorLaws.{next_atom, next_bare}
 use Rattle.dependency.proofs.node_dependency.Goals as goal
 
 pub operand_dependency-requires : goal.operand_dependency-requires
-operand_dependency-requires c = (c.requires.0, c.requires.1, c.requires.2, rw (sym c.view.ensures.value ∙ c.in-And.is) of_and)
-
-pub operand_dependency-requires-in-Or : goal.operand_dependency-requires-in-Or
-operand_dependency-requires-in-Or c = (c.requires.0, c.requires.1, c.requires.2, rw (sym c.view.ensures.value ∙ c.in-Or.is) of_or)
+operand_dependency-requires c = (c.requires.0, c.requires.1, c.requires.2, grouped _ _ _ _ c.view.ensures.value c.in-And.is)
 
 pub returns-in-Atom : goal.returns-in-Atom
 returns-in-Atom c = (next_atom c.args.counts c.args.nodes.now c.args.operands.now c.args.classes.now c.args.roots.now c.args.c c.requires.2 _ c.requires.0 (sym c.view.ensures.value ∙ c.in-Atom.is), omega (arith, atom_below _ _ _ c.requires.1.tables _ c.requires.0 _ (sym c.view.ensures.value ∙ c.in-Atom.is)), omega (arith, c.requires.0))
 
 pub returns-in-False : goal.returns-in-False
-returns-in-False c = next_bare c.args.counts c.args.nodes.now c.args.operands.now c.args.classes.now c.args.roots.now c.args.c c.requires.2 _ c.requires.0 (sym c.view.ensures.value ∙ c.in-False.is) bare_false
-
-pub returns-in-Implies : goal.returns-in-Implies
-returns-in-Implies c = next_bare c.args.counts c.args.nodes.now c.args.operands.now c.args.classes.now c.args.roots.now c.args.c c.requires.2 _ c.requires.0 (sym c.view.ensures.value ∙ c.in-Implies.is) bare_implies
-
-pub returns-in-Unknown : goal.returns-in-Unknown
-returns-in-Unknown c = next_bare c.args.counts c.args.nodes.now c.args.operands.now c.args.classes.now c.args.roots.now c.args.c c.requires.2 _ c.requires.0 (sym c.view.ensures.value ∙ c.in-Unknown.is) bare_unknown
+returns-in-False c = next_bare c.args.counts c.args.nodes.now c.args.operands.now c.args.classes.now c.args.roots.now c.args.c c.requires.2 _ c.requires.0 refl (bare _ _ c.view.ensures.value c.in-False.is)

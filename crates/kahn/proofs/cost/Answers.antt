@@ -1,9 +1,15 @@
-use borrow.Author.Rules.{rules}
-use borrow.Author.Tests.{lt-ltb, le-ltb}
+use Prim.Native.Nat.{ℕ, ◌≤◌}
+use native.Mathlib.Omega.{arith}
+use lib.Dec.{ltb}
+use mathlib.Core.Bool.{Bool, true, false}
+use mathlib.Core.Path.{◌≡◌}
+use Rattle.graph.specs.Edge.{one}
+use mir.Val.{bool_byte}
 use Rattle.kahn.proofs.cost.Goals as goal
 
-pub returns-then-target-atoms : goal.returns-then-target-atoms
-returns-then-target-atoms c = (rw (lt-ltb _ _ c.if-target-atoms.true), search rules)
+counted : (b : Bool) (x : ℕ) → x ≡ bool_byte b → (x ≡ one b) × (x ≤ 1)
+counted true x e = (e, omega arith)
+counted false x e = (e, omega arith)
 
-pub returns-else-target-atoms : goal.returns-else-target-atoms
-returns-else-target-atoms c = (rw (le-ltb _ _ c.if-target-atoms.false), search rules)
+pub returns : goal.returns
+returns c = counted (ltb c.args.target c.args.atoms) _ c.from.ensures

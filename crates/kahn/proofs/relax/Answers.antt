@@ -14,4 +14,4 @@ pub shape_of-area : goal.shape_of-area
 shape_of-area c = simp length-set at c.push.auto.area
 
 pub returns : goal.returns
-returns c = let r = relaxed _ _ _ _ _ _ (search rules) (search rules) (search rules) (search rules) _ _ _ _ _ _ _ c.word-degree.ensures.value c.word-before.ensures.value c.word.ensures.value c.cost.ensures.0 c.greater-rank.ensures c.push.ensures in record { area_after = r.0; links_kept = r.1 }
+returns c = let r = relaxed _ _ _ _ _ _ (search rules) (search rules) (search rules) (search rules) _ _ _ _ _ _ _ c.word-degree.ensures.value c.word-before.ensures.value c.word.ensures.value c.cost.ensures.0 c.max-rank.ensures c.push.ensures in record { area_after = r.0; links_kept = r.1 }
