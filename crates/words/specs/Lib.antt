@@ -7,6 +7,5 @@ pub mod BitLaws
 pub mod PlaceLaws
 pub mod SetLaws
 pub mod NextLaws
-pub mod Zeros
 pub mod Halves
 pub mod TakeOffLaws

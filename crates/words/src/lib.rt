@@ -39,25 +39,21 @@ pub fn half_word(table: &[u64], i: usize) -> u32
 pub fn clear(table: &mut [u32])
     ensures { table.new ≡ replicate (length table.old) 0 }
 {
-    let mut i = 0;
-    while i < table.len() {
-        table[i] = 0;
-        i += 1;
-    }
+    table.fill(0);
 }
 
 // The greater of two numbers.
 pub fn greater(a: usize, b: usize) -> usize
     ensures { result ≡ max a b }
 {
-    if a < b { b } else { a }
+    a.max(b)
 }
 
 // The smaller of two numbers.
 pub fn smaller(a: usize, b: usize) -> usize
     ensures { result ≡ min a b }
 {
-    if a < b { a } else { b }
+    a.min(b)
 }
 
 // The word's set place number i, rising from i = 0, or 64 if there are not so many.
@@ -65,13 +61,11 @@ pub fn bits(word: u64, i: usize) -> u32
     ensures { result ≡ get_or (places (bit word) 0 64) i 64 }
 {
     let mut x = word;
-    let mut left = i;
-    while left > 0 {
+    for _ in 0..i {
         if x == 0 {
             return 64;
         }
-        x = x & (x - 1);
-        left -= 1;
+        x &= x - 1;
     }
-    u64::trailing_zeros(x)
+    x.trailing_zeros()
 }
