@@ -9,3 +9,4 @@ pub mod SetLaws
 pub mod NextLaws
 pub mod Halves
 pub mod TakeOffLaws
+pub mod WordLaws

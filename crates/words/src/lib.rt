@@ -6,8 +6,10 @@ ghost use Rattle.base.specs.Places.{places};
 ghost use Rattle.words.specs.Bit.{bit};
 ghost use Rattle.words.specs.Halves.{half};
 
+pub mod set;
 pub mod set32;
 pub mod set64;
+pub mod width;
 
 // Word i of a table, as a number.
 pub fn word(table: &[u32], i: usize) -> usize
