@@ -8,7 +8,8 @@ use mathlib.Core.List.{List}
 use lib.Dec.{eqb}
 use lib.ListN.{length, get_or}
 use lib.Count.{count_trailing_zeros}
-use Rattle.std.proofs.Common.{mul-le-mul_left, lt_of_le_of_lt, div-le_self, mul_comm, div-add-mod'}
+use Rattle.std.specs.Option.{unwrap_or}
+use Rattle.std.proofs.Common.{Option, Some, None, MatchOption, mul-le-mul_left, lt_of_le_of_lt, div-le_self, mul_comm, div-add-mod'}
 use Rattle.words.specs.Bit.{bit}
 use Rattle.words.specs.Block.{AllZero}
 use Rattle.words.specs.Next.{next}
@@ -20,6 +21,12 @@ use Rattle.words.proofs.Blocks.{marked_found, marked_there, marked_next}
 module _ {X : Type 0} (w : ℕ) (number : X → ℕ) (numbers : List X → List ℕ) (laws : WordLaws w number numbers) (ws : List X) where
   pub next_stop : (i : ℕ) → w * length ws ≤ i → next w (numbers ws) i ≡ i
   next_stop i h = next-end w (numbers ws) i (rw (laws.as_many ws) h)
+
+  -- the answer to a search up to the last word
+  pub next_or_stop : (o : Option ℕ) (q : ℕ) → MatchOption o (next w (numbers ws) (w * q) ≡ next w (numbers ws) (w * length ws)) (λ i. i ≡ next w (numbers ws) (w * q))
+      → unwrap_or o (w * length ws) ≡ next w (numbers ws) (w * q)
+  next_or_stop None q h = sym (h ∙ next_stop (w * length ws) (omega arith))
+  next_or_stop (Some i) q h = h
 
   pub next_past : (i : ℕ) → length ws ≤ i / w → next w (numbers ws) i ≡ i
   next_past i h = next_stop i (omega (arith, mul-le-mul_left w h, mul_comm w (i / w), div-add-mod' i w))

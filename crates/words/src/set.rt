@@ -1,5 +1,5 @@
 // Sets of numbers in words of one width.
-ghost use Rattle.std.specs.Prelude.{◌≡◌, true, not, ℕ, ◌+◌, ◌*◌, ◌^◌, ◌<◌, ◌≤◌, length, get_or, eqb};
+ghost use Rattle.std.specs.Prelude.{◌≡◌, true, not, ℕ, ◌+◌, ◌*◌, ◌^◌, ◌<◌, ◌≤◌, length, get_or, eqb, MatchOption};
 ghost use Rattle.words.specs.Bit.{bit};
 ghost use Rattle.words.specs.Changed.{changed};
 ghost use Rattle.words.specs.Next.{next};
@@ -39,16 +39,14 @@ pub fn next_word<W: Word>(words: &[W], first: usize) -> usize
     ensures { result ≡ next W.BITS (W.numbers words.now) (W.BITS * first) }
 {
     let near = first + (words.len() - first).min(8);
-    for q in first..near {
-        let x = words[q].wide();
-        if x != 0 {
-            return W::BITS * q + x.trailing_zeros() as usize;
-        }
+    if let Some(i) = within(words, first, near) {
+        return i;
     }
     next_far(words, near)
 }
 
-// The same, whole blocks of 32 words first.
+// The same, whole blocks of 32 words first. Not inlined, so that the search of what stands near stays short.
+#[inline(never)]
 fn next_far<W: Word>(words: &[W], first: usize) -> usize
     requires first_in_bounds { first ≤ length words.now }
     requires words_bound { W.BITS * length words.now < 2 ^ 64 }
@@ -62,7 +60,23 @@ fn next_far<W: Word>(words: &[W], first: usize) -> usize
             return W::BITS * i + words[i].wide().trailing_zeros() as usize;
         }
     }
-    next_rest(words, first + 32 * blocks)
+    within(words, first + 32 * blocks, words.len()).unwrap_or(W::BITS * words.len())
+}
+
+// The same in the words from `first` up to `end`, if there is one.
+fn within<W: Word>(words: &[W], first: usize, end: usize) -> Option<usize>
+    requires first_to_end { first ≤ end }
+    requires end_in_bounds { end ≤ length words.now }
+    requires words_bound { W.BITS * length words.now < 2 ^ 64 }
+    ensures { MatchOption result (next W.BITS (W.numbers words.now) (W.BITS * first) ≡ next W.BITS (W.numbers words.now) (W.BITS * end)) (λ i. i ≡ next W.BITS (W.numbers words.now) (W.BITS * first)) }
+{
+    for q in first..end {
+        let x = words[q].wide();
+        if x != 0 {
+            return Some(W::BITS * q + x.trailing_zeros() as usize);
+        }
+    }
+    None
 }
 
 // Whether the 32 words from `first` on are all 0.
@@ -89,19 +103,4 @@ pub fn nonzeros<W: Word>(words: &[W], first: usize) -> u32
         }
     }
     x
-}
-
-// The same as next_word, word by word to the end.
-fn next_rest<W: Word>(words: &[W], first: usize) -> usize
-    requires first_in_bounds { first ≤ length words.now }
-    requires words_bound { W.BITS * length words.now < 2 ^ 64 }
-    ensures { result ≡ next W.BITS (W.numbers words.now) (W.BITS * first) }
-{
-    for q in first..words.len() {
-        let x = words[q].wide();
-        if x != 0 {
-            return W::BITS * q + x.trailing_zeros() as usize;
-        }
-    }
-    W::BITS * words.len()
 }
