@@ -1,7 +1,7 @@
 // Words lent in slices: read as numbers, and as sets of bits.
 #![tactic(auto)]
 
-ghost use Rattle.std.specs.Prelude.{◌≡◌, ◌*◌, ◌<◌, max, min, length, get_or, replicate};
+ghost use Rattle.std.specs.Prelude.{◌≡◌, ◌*◌, ◌^◌, ◌<◌, max, min, length, get_or, replicate};
 ghost use Rattle.base.specs.Places.{places};
 ghost use Rattle.words.specs.Bit.{bit};
 ghost use Rattle.words.specs.Halves.{half};
@@ -11,13 +11,15 @@ pub mod set32;
 pub mod set64;
 pub mod width;
 
+use width::Word;
+
 // Word i of a table, as a number.
-pub fn word(table: &[u32], i: usize) -> usize
+pub fn word<W: Word>(table: &[W], i: usize) -> usize
     requires { i < length table.now }
-    ensures value { result ≡ get_or table.now i 0 }
-    ensures upper_bound { result < 4294967296 }
+    ensures value { result ≡ get_or (W.numbers table.now) i 0 }
+    ensures upper_bound { result < 2 ^ W.BITS }
 {
-    table[i] as usize
+    table[i].wide() as usize
 }
 
 // The same of a table of 64 bits a word.
@@ -25,8 +27,7 @@ pub fn word64(table: &[u64], i: usize) -> usize
     requires { i < length table.now }
     ensures { result ≡ get_or table.now i 0 }
 {
-    let x = table[i];
-    x as usize
+    word(table, i)
 }
 
 // Word i of a list of u64 words taken as u32 words.
