@@ -1,2 +1,3 @@
 pub mod Rest
 pub mod Blocks
+pub mod Words

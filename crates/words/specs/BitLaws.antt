@@ -12,7 +12,7 @@ use Rattle.std.specs.Int.Bits.{bit_and, bit_or, bit_xor, differ, and_step, or_st
 use Rattle.std.proofs.lemmas.Nat.{and_shr, or_shr, xor_shr, xor_lt}
 use Rattle.std.specs.Int.Count.{ones, ones_step, count_trailing_zeros, under}
 use Rattle.base.specs.Tests.{equal_or}
-use Rattle.base.specs.Places.{places, places-yes, places_no, places_first, count, count_agree, lowest, lowest_here, lowest_past, lowest_is, Lowest}
+use Rattle.base.specs.Places.{places, places-yes, places_no, places_first, count, count_agree, lowest, lowest_here, lowest_past, lowest_is, lowest-only, Lowest}
 use Rattle.words.specs.Bit.{bit}
 use Rattle.words.specs.Changed.{unlike, changed}
 
@@ -177,3 +177,12 @@ places_trailing w x p h = places_first (bit x) (bit (bit_xor x (2 ^ t))) 0 w t (
 
     same : (k : ℕ) → (k ≡ t → ⊥) → bit (bit_xor x (2 ^ t)) k ≡ bit x k
     same k ne = bit_xor_lem x (2 ^ t) k ∙ rw (bit_power t k, ne_eqb t k (λ e. ne (sym e))) (unlike_false (bit x k))
+
+-- in a wider word it stands where it does in this one
+pub trailing_wider : (w v x : ℕ) → 0 < x → x < 2 ^ w → w ≤ v → count_trailing_zeros v x ≡ count_trailing_zeros w x
+trailing_wider w v x p h l = lowest-only (bit x) 0 w (count_trailing_zeros v x) (record {
+  from = (trailing_is v x).from;
+  within = omega (arith, trailing_below v w x p h l);
+  before = (trailing_is v x).before;
+  here = λ b. (trailing_is v x).here (omega (arith, b, l));
+}) ∙ sym (trailing_lowest w x)

@@ -7,6 +7,6 @@ pub mod BitLaws
 pub mod PlaceLaws
 pub mod SetLaws
 pub mod NextLaws
-pub mod Zeros
 pub mod Halves
 pub mod TakeOffLaws
+pub mod WordLaws

@@ -1,21 +1,25 @@
 // Words lent in slices: read as numbers, and as sets of bits.
 #![tactic(auto)]
 
-ghost use Rattle.std.specs.Prelude.{◌≡◌, ◌*◌, ◌<◌, max, min, length, get_or, replicate};
+ghost use Rattle.std.specs.Prelude.{◌≡◌, ◌*◌, ◌^◌, ◌<◌, max, min, length, get_or, replicate};
 ghost use Rattle.base.specs.Places.{places};
 ghost use Rattle.words.specs.Bit.{bit};
 ghost use Rattle.words.specs.Halves.{half};
 
+pub mod set;
 pub mod set32;
 pub mod set64;
+pub mod width;
+
+use width::Word;
 
 // Word i of a table, as a number.
-pub fn word(table: &[u32], i: usize) -> usize
+pub fn word<W: Word>(table: &[W], i: usize) -> usize
     requires { i < length table.now }
-    ensures value { result ≡ get_or table.now i 0 }
-    ensures upper_bound { result < 4294967296 }
+    ensures value { result ≡ get_or (W.numbers table.now) i 0 }
+    ensures upper_bound { result < 2 ^ W.BITS }
 {
-    table[i] as usize
+    table[i].wide() as usize
 }
 
 // The same of a table of 64 bits a word.
@@ -23,8 +27,7 @@ pub fn word64(table: &[u64], i: usize) -> usize
     requires { i < length table.now }
     ensures { result ≡ get_or table.now i 0 }
 {
-    let x = table[i];
-    x as usize
+    word(table, i)
 }
 
 // Word i of a list of u64 words taken as u32 words.
@@ -39,25 +42,21 @@ pub fn half_word(table: &[u64], i: usize) -> u32
 pub fn clear(table: &mut [u32])
     ensures { table.new ≡ replicate (length table.old) 0 }
 {
-    let mut i = 0;
-    while i < table.len() {
-        table[i] = 0;
-        i += 1;
-    }
+    table.fill(0);
 }
 
 // The greater of two numbers.
 pub fn greater(a: usize, b: usize) -> usize
     ensures { result ≡ max a b }
 {
-    if a < b { b } else { a }
+    a.max(b)
 }
 
 // The smaller of two numbers.
 pub fn smaller(a: usize, b: usize) -> usize
     ensures { result ≡ min a b }
 {
-    if a < b { a } else { b }
+    a.min(b)
 }
 
 // The word's set place number i, rising from i = 0, or 64 if there are not so many.
@@ -65,13 +64,11 @@ pub fn bits(word: u64, i: usize) -> u32
     ensures { result ≡ get_or (places (bit word) 0 64) i 64 }
 {
     let mut x = word;
-    let mut left = i;
-    while left > 0 {
+    for _ in 0..i {
         if x == 0 {
             return 64;
         }
-        x = x & (x - 1);
-        left -= 1;
+        x &= x - 1;
     }
-    u64::trailing_zeros(x)
+    x.trailing_zeros()
 }

@@ -1,8 +1,8 @@
-use native.Mathlib.Omega.{arith}
+use Rattle.words.proofs.Words.{read}
 use Rattle.words.proofs.word.Goals as goal
 
-pub overflow_cast-result : goal.overflow_cast-result
-overflow_cast-result c = omega (arith, c.type_inv.table c.args.i)
-
 pub returns : goal.returns
-returns c = omega (arith, c.type_inv.table c.args.i)
+returns g c = record {
+  value = read _ _ _ g.met.W.Word.laws _ c.args.i _ _ c.index-table-i.is c.wide.ensures.value c.requires;
+  upper_bound = c.wide.ensures.fits;
+}

@@ -1,0 +1,53 @@
+// What words of 32 and of 64 bits have in common.
+ghost use Rattle.std.specs.Prelude.{◌≡◌, ℕ, ◌^◌, ◌<◌, List};
+ghost use Rattle.std.proofs.Common.{lit<, lit≤};
+ghost use Rattle.words.specs.WordLaws.{WordLaws, plain};
+
+pub trait Word: Copy {
+    ghost BITS: { ℕ };
+
+    // The number that a word is, and those that the words of a list are.
+    ghost number: { Self → ℕ };
+
+    ghost numbers: { List Self → List ℕ };
+
+    const BITS: usize;
+
+    fn wide(self) -> u64
+        ensures value { result ≡ number self }
+        ensures fits { result < 2 ^ BITS };
+
+    ghost laws: { WordLaws BITS number numbers };
+}
+
+impl Word for u32 {
+    ghost BITS = { 32 };
+
+    ghost number = { λ x. x };
+
+    ghost numbers = { λ ws. ws };
+
+    ghost laws = { plain 32 (lit< tt) (lit≤ tt) };
+
+    const BITS: usize = 32;
+
+    fn wide(self) -> u64 {
+        self as u64
+    }
+}
+
+impl Word for u64 {
+    ghost BITS = { 64 };
+
+    ghost number = { λ x. x };
+
+    ghost numbers = { λ ws. ws };
+
+    ghost laws = { plain 64 (lit< tt) (lit≤ tt) };
+
+    const BITS: usize = 64;
+
+    fn wide(self) -> u64 {
+        self
+    }
+}
