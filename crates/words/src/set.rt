@@ -38,7 +38,7 @@ pub fn next_word<W: Word>(words: &[W], first: usize) -> usize
     requires words_bound { W.BITS * length words.now < 2 ^ 64 }
     ensures { result ≡ next W.BITS (W.numbers words.now) (W.BITS * first) }
 {
-    let near = first + (words.len() - first).min(8);
+    let near = words.len().min(first + 8);
     if let Some(i) = within(words, first, near) {
         return i;
     }

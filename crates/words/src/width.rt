@@ -1,6 +1,6 @@
 // What words of 32 and of 64 bits have in common.
 ghost use Rattle.std.specs.Prelude.{◌≡◌, ℕ, ◌^◌, ◌<◌, List};
-ghost use Rattle.std.proofs.Common.{lit<, lit≤};
+ghost use Rattle.std.proofs.Common.{lit≤};
 ghost use Rattle.words.specs.WordLaws.{WordLaws, plain};
 
 pub trait Word: Copy {
@@ -27,7 +27,7 @@ impl Word for u32 {
 
     ghost numbers = { λ ws. ws };
 
-    ghost laws = { plain 32 (lit< tt) (lit≤ tt) };
+    ghost laws = { plain 32 (lit≤ tt) (lit≤ tt) };
 
     const BITS: usize = 32;
 
@@ -43,7 +43,7 @@ impl Word for u64 {
 
     ghost numbers = { λ ws. ws };
 
-    ghost laws = { plain 64 (lit< tt) (lit≤ tt) };
+    ghost laws = { plain 64 (lit≤ tt) (lit≤ tt) };
 
     const BITS: usize = 64;
 
