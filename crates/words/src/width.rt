@@ -4,6 +4,7 @@ ghost use Rattle.std.proofs.Common.{lit≤};
 ghost use Rattle.words.specs.WordLaws.{WordLaws, plain};
 
 pub trait Word: Copy {
+    // A word's width.
     ghost BITS: { ℕ };
 
     // The number that a word is, and those that the words of a list are.
@@ -13,6 +14,7 @@ pub trait Word: Copy {
 
     const BITS: usize;
 
+    // The word as a number of 64 bits.
     fn wide(self) -> u64
         ensures value { result ≡ number self }
         ensures fits { result < 2 ^ BITS };
