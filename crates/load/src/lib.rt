@@ -1,7 +1,7 @@
 // The tables and the candidates of a theory file, written into lent buffers.
 #![tactic(auto)]
 
-ghost use Rattle.std.specs.Prelude.{◌≡◌, ◌++◌, ◌+◌, ◌*◌, ◌<◌, ◌≤◌, length, drop, replicate};
+ghost use Rattle.std.specs.Prelude.{◌≡◌, ◌++◌, ◌+◌, ◌*◌, ◌<◌, ◌≤◌, length, drop};
 ghost use Rattle.theory.specs.Limits.{Limited, Lent};
 ghost use Rattle.record.specs.Number.{number, numbers};
 ghost use Rattle.record.specs.Layout.{arity, record_end, values_of};

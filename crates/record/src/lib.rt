@@ -1,15 +1,15 @@
 // The theory file: a cursor by value goes over it record by record.
 #![tactic(auto)]
 
-ghost use Rattle.std.specs.Prelude.{◌≡◌, true, false, ◌+◌, ◌*◌, ◌<◌, ◌≤◌, length, get_or, leb};
+ghost use Rattle.std.specs.Prelude.{◌≡◌, ◌+◌, ◌*◌, ◌<◌, ◌≤◌, length, leb};
 ghost use Rattle.theory.specs.Admission.{all_below};
 ghost use Rattle.theory.specs.Limits.{Limited};
-ghost use Rattle.record.specs.Mark.{is_mark, node_mark_at, mark_at, in_order};
+ghost use Rattle.record.specs.Mark.{mark_at, in_order};
 ghost use Rattle.record.specs.Number.{number, numbers};
 ghost use Rattle.record.specs.Rising.{rising};
 ghost use Rattle.record.specs.Layout.{counted, arity, value_count, values_start, values_of, record_end};
-ghost use Rattle.record.specs.Passed.{counts_after, more, passed, passed_other};
-ghost use Rattle.record.specs.Record.{unless, judged_group, judged_values, judged_whole, judged};
+ghost use Rattle.record.specs.Passed.{counts_after, passed, passed_other};
+ghost use Rattle.record.specs.Record.{judged_group, judged_values, judged_whole, judged};
 ghost use Rattle.record.specs.File.{theory_file, verdict, start};
 ghost use Rattle.record.specs.Bounds.{Within};
 
@@ -106,10 +106,7 @@ fn in_order(mark: Mark, stage: Stage) -> bool
 fn counted(mark: Mark) -> bool
     ensures { result ≡ counted mark }
 {
-    match mark {
-        Mark::And | Mark::Or | Mark::Candidate => true,
-        _ => false,
-    }
+    matches!(mark, Mark::And | Mark::Or | Mark::Candidate)
 }
 
 fn arity(mark: Mark) -> usize
