@@ -40,6 +40,7 @@ fn node_words(file: &[u8], begin: usize, mark: Mark, v: Values) -> Option<[u32; 
     }
 }
 
+#[tactic(auto, using(crate::proofs::Laws::placed_none, crate::proofs::Laws::placed_part))]
 fn put(nodes: &mut [u32], at: usize, added: Option<[u32; 3]>)
     requires { at + length (words_of added) ≤ length nodes.old }
     ensures { nodes.new ≡ placed nodes.old at (words_of added) }
@@ -80,6 +81,7 @@ fn root_count(mark: Mark, count: usize) -> usize
 }
 
 // The record at the cursor, into the tables.
+#[tactic(auto, using(record::proofs::Steps::fixed_least, crate::proofs::Laws::counts_room))]
 fn store(
     file: &[u8],
     c: Cursor,
@@ -104,6 +106,7 @@ fn store(
     copy(file, v.start, root_count(mark, v.count), roots, t.roots);
 }
 
+#[tactic(auto, using(record::proofs::Steps::fixed_least))]
 fn next_cursor(file: &[u8], c: Cursor, mark: Mark, v: Values) -> Cursor
     requires { Within (length file.now) c × Stands file.now c mark v }
     ensures { result ≡ passed c mark (counts_after c.counts mark (numbers file.now v.start v.count)) (v.start + 4 * v.count) }

@@ -134,6 +134,7 @@ fn is_whole(file: &[u8], at: usize, mark: Mark) -> bool
 }
 
 // Of a whole record.
+#[tactic(auto, using(crate::proofs::Laws::counted_within, crate::proofs::Laws::fixed_within), unfolding(crate::specs::Layout::values_start, crate::specs::Layout::value_count))]
 pub fn values_of(file: &[u8], at: usize, mark: Mark) -> Values
     requires { record_end file.now at mark ≤ length file.now }
     ensures { (result.start ≡ values_start file.now at mark) × (result.count ≡ value_count file.now at mark) × (result.count < 4294967296) }
@@ -302,6 +303,7 @@ fn judge_values(
 }
 
 // A record that is whole: 3, then by its values.
+#[tactic(auto, using(crate::proofs::Steps::fixed_least), unfolding(crate::specs::Layout::record_end))]
 fn judge_whole(file: &[u8], c: Cursor, mark: Mark) -> Result<Cursor, Refusal>
     requires { Within (length file.now) c × (record_end file.now c.at mark ≤ length file.now) }
     ensures { result ≡ judged_whole c mark (values_of file.now c.at mark) (record_end file.now c.at mark) }

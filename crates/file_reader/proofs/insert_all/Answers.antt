@@ -1,16 +1,11 @@
 use native.Mathlib.Omega.{arith}
 use Prim.Native.Nat.{◌/◌, ◌<◌}
-use mathlib.Core.Path.{ap}
 use lib.ListN.{length}
 use Rattle.base.specs.Each.{each_at}
 use Rattle.record.specs.Number.{numbers}
-use Rattle.record.proofs.Laws.{length-numbers, numbers_at, numbers_all}
-use Rattle.file_reader.specs.Insert.{inserted_all}
+use Rattle.record.proofs.Laws.{length-numbers, numbers_at}
 use Rattle.file_reader.proofs.Laws.{insert_more, insert_done}
 use Rattle.file_reader.proofs.insert_all.Goals as goal
-
-pub loop-i-init : goal.loop-i-init
-loop-i-init c = ap (inserted_all _) (numbers_all _ _ _)
 
 pub insert-requires : goal.insert-requires
 insert-requires c = rw (c.number.ensures.value, ← (numbers_at c.args.file.now c.args.from c.loop-i.i c.args.count c.loop-i-test.true), c.loop-i.auto.words) (each_at (λ a. a / 64 < length c.args.words.now) 0 (numbers c.args.file.now c.args.from c.args.count) c.requires.1 c.loop-i.i (omega (arith, length-numbers c.args.file.now c.args.from c.args.count)))

@@ -7,9 +7,6 @@ returns-in-Theory c =
     let two = two_numbers c.args.file.now c.args.v.start c.args.v.count (omega (arith, rw c.in-Theory.is at c.requires.1)) in
     simp (c.in-Theory.is, two.0, two.1, ← c.number.ensures.value, ← c.number-in-Theory.ensures.value)
 
-pub returns-in-Atom : goal.returns-in-Atom
-returns-in-Atom c = grind arith
-
 pub returns-in-And : goal.returns-in-And
 returns-in-And c = grind (arith, length-numbers)
 

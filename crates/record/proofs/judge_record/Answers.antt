@@ -1,6 +1,5 @@
 use native.Mathlib.Omega.{arith}
 use mathlib.Core.Path.{sym, ◌∙◌}
-use borrow.Author.Tests.{leb-true}
 use Rattle.record.proofs.Steps.{mark_cut, marked, disordered, record_cut, record_whole}
 use Rattle.record.proofs.judge_record.Goals as goal
 
@@ -12,9 +11,6 @@ returns-then-not-in_order c = marked _ _ _ _ (omega (arith, c.requires.at)) c.ma
 
 pub returns-then-not-is_whole : goal.returns-then-not-is_whole
 returns-then-not-is_whole c = marked _ _ _ _ (omega (arith, c.requires.at)) c.mark_at-mark.ensures (record_cut _ _ _ (sym c.in_order.ensures ∙ c.if-not-in_order.false) (sym c.is_whole.ensures ∙ c.if-not-is_whole.true))
-
-pub judge_whole-requires : goal.judge_whole-requires
-judge_whole-requires c = (c.requires, leb-true _ _ (sym c.is_whole.ensures ∙ c.if-not-is_whole.false))
 
 pub returns : goal.returns
 returns c = marked _ _ _ _ (omega (arith, c.requires.at)) c.mark_at-mark.ensures (record_whole _ _ _ _ (sym c.in_order.ensures ∙ c.if-not-in_order.false) (sym c.is_whole.ensures ∙ c.if-not-is_whole.false) c.judge_whole.ensures)
