@@ -153,6 +153,7 @@ pub fn values_of(file: &[u8], at: usize, mark: Mark) -> Values
 }
 
 // Each of the values is below the bound.
+#[tactic(auto, using(crate::proofs::Laws::below_turns))]
 fn all_below(file: &[u8], v: Values, bound: usize) -> bool
     requires { v.start + 4 * v.count ≤ length file.now }
     ensures { result ≡ all_below bound (numbers file.now v.start v.count) }
@@ -167,6 +168,7 @@ fn all_below(file: &[u8], v: Values, bound: usize) -> bool
 }
 
 // The values are strictly rising.
+#[tactic(auto, using(crate::proofs::Laws::rising_turns))]
 fn is_rising(file: &[u8], v: Values) -> bool
     requires { v.start + 4 * v.count ≤ length file.now }
     ensures { result ≡ rising (numbers file.now v.start v.count) }
@@ -187,6 +189,7 @@ fn is_rising(file: &[u8], v: Values) -> bool
 }
 
 // The counts with what a record adds to them.
+#[tactic(auto, using(crate::proofs::Laws::length_numbers, crate::proofs::Laws::two_numbers))]
 pub fn counts_after(file: &[u8], t: Counts, mark: Mark, v: Values) -> Counts
     requires { (v.start + 4 * v.count ≤ length file.now) × (arity mark ≤ v.count) × (v.count < 4294967296) × Limited t }
     ensures { result ≡ counts_after t mark (numbers file.now v.start v.count) }
@@ -252,6 +255,7 @@ pub fn passed(c: Cursor, mark: Mark, counts: Counts, end: usize) -> Cursor
 }
 
 // And or Or: 6, 5.
+#[tactic(auto, using(crate::proofs::Laws::length_numbers), unfolding(crate::specs::Record::judged_group, crate::specs::Record::unless))]
 fn judge_group(file: &[u8], c: Cursor, v: Values, next: Cursor) -> Result<Cursor, Refusal>
     requires { v.start + 4 * v.count ≤ length file.now }
     ensures { result ≡ judged_group c (numbers file.now v.start v.count) (Ok next) }
