@@ -124,6 +124,8 @@ module _ (file : List ℕ) (at : ℕ) (mark : Mark) where
   unfolding record_end values_start value_count
   fixed_within h e = omega (arith, rw e at h)
 
+pub ruleset whole_tests = (whole_fixed, whole_cut, whole_counted, lt-leb)
+
 pub one_number : (file : List ℕ) (at n : ℕ) → 1 ≤ n → get_or (numbers file at n) 0 0 ≡ number file at
 unfolding numbers
 one_number file at zero h = absurd (omega arith)

@@ -83,6 +83,7 @@ pub fn mark_at(file: &[u8], at: usize) -> Mark
 }
 
 // Four bytes, low byte first.
+#[tactic(auto, unfolding(crate::specs::Number::number))]
 pub fn number(file: &[u8], at: usize) -> usize
     requires { at + 4 ≤ length file.now }
     ensures value { result ≡ number file.now at }
@@ -121,6 +122,7 @@ fn arity(mark: Mark) -> usize
 }
 
 // The record at `at` ends within the file.
+#[tactic(auto, using(crate::proofs::Laws::whole_tests))]
 fn is_whole(file: &[u8], at: usize, mark: Mark) -> bool
     requires { at + 2 ≤ length file.now }
     ensures { result ≡ leb (record_end file.now at mark) (length file.now) }
@@ -307,7 +309,7 @@ fn judge_values(
 }
 
 // A record that is whole: 3, then by its values.
-#[tactic(auto, using(crate::proofs::Steps::fixed_least), unfolding(crate::specs::Layout::record_end))]
+#[tactic(auto, using(crate::proofs::Steps::whole_exits), unfolding(crate::specs::Layout::record_end))]
 fn judge_whole(file: &[u8], c: Cursor, mark: Mark) -> Result<Cursor, Refusal>
     requires { Within (length file.now) c × (record_end file.now c.at mark ≤ length file.now) }
     ensures { result ≡ judged_whole c mark (values_of file.now c.at mark) (record_end file.now c.at mark) }
@@ -322,6 +324,7 @@ fn judge_whole(file: &[u8], c: Cursor, mark: Mark) -> Result<Cursor, Refusal>
 }
 
 // The record that begins at the cursor.
+#[tactic(auto, using(crate::proofs::Steps::record_exits))]
 fn judge_record(file: &[u8], c: Cursor) -> Result<Cursor, Refusal>
     requires { Within (length file.now) c }
     ensures { result ≡ judged file.now c }
@@ -360,6 +363,7 @@ pub fn start() -> Cursor
 }
 
 // Whether the file is sound, and what it holds; or why not, and at which record.
+#[tactic(auto, using(crate::proofs::Judging::judge_turns), unfolding(crate::specs::File::theory_file))]
 pub fn judge(file: &[u8]) -> Result<Summary, Refusal>
     ensures { result ≡ verdict (theory_file file.now) }
 {
