@@ -1,6 +1,6 @@
 -- Answers whose numbers fit the fields of their word. Every outcome's answer does (proofs/PlanFits, CheckFits).
 -- Assumes nothing.
-use Rattle.std.specs.Prelude.{◌<◌, Result, Ok, Err}
+use Rattle.std.specs.Prelude.{ℕ, ◌<◌, Result, Ok, Err}
 use Rattle.theory.specs.declared.Refusal.{Refusal}
 use Rattle.kept.specs.Outcome.{Answer, accepted, refused}
 use Rattle.answers.specs.Word.{place_of, body_of, named}

@@ -8,9 +8,8 @@ ghost use Rattle.update.specs.Results.{answer_of};
 ghost use Rattle.answers.specs.Word.{word, refusal_word, planning_word, check_word};
 ghost use Rattle.answers.specs.Fits.{RefusalFits, PlanningFits, AnswerFits};
 
-use plan::Planning;
 use theory::Refusal;
-use update::Checked;
+use update::Accepted;
 use verdict::Verdict;
 
 // Three fields of 8, 32 and 24 bits.
@@ -27,11 +26,7 @@ fn pack_refusal(r: Refusal) -> u64
     ensures { result ≡ refusal_word r }
 {
     let told = text::numbers_of(r);
-    if told.fields >= 3 {
-        pack(told.number, told.place, told.body)
-    } else {
-        pack(told.number, told.place, 0)
-    }
+    pack(told.number, told.place, told.body.unwrap_or(0))
 }
 
 // Of a planning call: the number of producers, or the refusal.
@@ -58,12 +53,12 @@ fn pack_verdict(v: Verdict, n: usize) -> u64
 }
 
 // Of a check: the verdict, what it names and the nodes visited, or the refusal.
-pub fn pack_checked(checked: Checked) -> u64
+pub fn pack_checked(checked: Result<Accepted, Refusal>) -> u64
     requires { AnswerFits (answer_of checked) }
     ensures { result ≡ check_word (answer_of checked) }
 {
     match checked {
-        Checked::Accepted(v, n) => pack_verdict(v, n),
-        Checked::Refused(r) => pack_refusal(r),
+        Ok(a) => pack_verdict(a.verdict, a.visited),
+        Err(r) => pack_refusal(r),
     }
 }

@@ -1,6 +1,6 @@
 -- From the bytes of a file to Ferraris: what the text of a run tells, for every list of bytes.
 -- Assumes nothing.
-use Rattle.std.specs.Prelude.{Ok, Err, None}
+use Rattle.std.specs.Prelude.{Ok, Err, None, Result}
 use Prim.Native.Nat.{ℕ, suc, ◌+◌, ◌*◌, ◌<◌, ◌≤◌}
 use native.Mathlib.Omega.{arith}
 use mathlib.Core.Path.{◌≡◌, refl, sym, ap, subst, ◌∙◌}
@@ -34,7 +34,6 @@ use Rattle.load.specs.Tables as tables
 use Rattle.load.specs.Tables.{over}
 use Rattle.load.specs.Loading as loading
 use Rattle.load.specs.Loading.{loading, loading_sound}
-use Rattle.load.specs.declared.Loaded as loaded
 use Rattle.load.proofs.Loads as ways
 use Rattle.load.proofs.Admitted.{loaded_sound, loaded_plannable}
 use Rattle.load.proofs.Theory.{loaded_theory}
@@ -43,7 +42,6 @@ use Rattle.readers.specs.ReaderTable.{built, list_of, slots}
 use Rattle.plan.specs.Buffers.{readers_length, work_length, short_buffer}
 use Rattle.plan.specs.Judged.{derived, plan_judged}
 use Rattle.plan.specs.Outcome.{plan_outcome, planned, ranks_of, lengths}
-use Rattle.plan.specs.declared.Planning as plans
 use Rattle.kept.specs.Planned.{PlannedTables}
 use Rattle.kept.specs.Tables.{Tables, atom_count}
 use Rattle.kept.specs.Verdict.{Verdict}
@@ -248,14 +246,14 @@ module _ (file : List ℕ) (f : TheoryFile) (enc : Encodes file f) where
 
   -- ---- whether it is
 
-  by-plan : s.counts.atoms ≤ 512 → (loading (theory_file file) own_tables).answer ≡ Ok s → (a : plans.Planning) → (plan_made file s).answer ≡ a → Told file
+  by-plan : s.counts.atoms ≤ 512 → (loading (theory_file file) own_tables).answer ≡ Ok s → (a : Result ℕ Refusal) → (plan_made file s).answer ≡ a → Told file
   by-plan few l (Ok p) q = planned-told p (record { short = enc.short; sound = sounds; few_atoms = few; loaded = l; planned = q })
   by-plan few l (Err r) q =
       unplanned f r enc q (plan_unplannable few l r q)
       (sym (plan_refused s.counts (tables_loaded file).nodes (tables_loaded file).operands (tables_loaded file).roots (candidates_in file) _ _ _ _ _ refl r q
       ∙ load-sound (theory_file file) s sounds few _ _ refl s l ∙ file_sound file enc.short s sounds))
 
-  by-load : s.counts.atoms ≤ 512 → (a : loaded.Loaded) → (loading (theory_file file) own_tables).answer ≡ a → Told file
+  by-load : s.counts.atoms ≤ 512 → (a : Result Summary Refusal) → (loading (theory_file file) own_tables).answer ≡ a → Told file
   unfolding loading summary_of counts_of
   by-load few (Ok x) l =
       let same : s ≡ x = (loaded_own (theory_file file) s x own_tables sounds l).0 in

@@ -17,8 +17,7 @@ use Rattle.load.specs.Candidate.{word_count, candidate_words}
 use Rattle.load.proofs.Candidates.{Candidates, sound_candidates}
 use Rattle.kept.specs.Tables.{Tables, atom_count}
 use Rattle.kept.specs.Outcome.{Answer, accepted, refused as kept-refused, outcome}
-use Rattle.update.specs.Results.{answer_of}
-use Rattle.update.specs.declared.Checked.{Checked}
+use Rattle.update.specs.Results.{Checked, answer_of}
 use Rattle.evaluate.specs.Checks as evaluate
 use Rattle.evaluate.specs.Checks.{outcome_of}
 use Rattle.text.specs.Clip.{Put}

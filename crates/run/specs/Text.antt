@@ -1,6 +1,6 @@
 -- The text of a file: what a run tells of it.
 -- Assumes nothing.
-use Rattle.std.specs.Prelude.{ℕ, ◌+◌, cond, List, [], ◌∷◌, ◌++◌, ltb, length, take, replicate, Ok, Err}
+use Rattle.std.specs.Prelude.{ℕ, ◌+◌, cond, List, [], ◌∷◌, ◌++◌, ltb, length, take, replicate, Ok, Err, Result}
 use Rattle.theory.specs.declared.Counts.{Counts}
 use Rattle.theory.specs.declared.Refusal.TheVariants.{PastLimit, ShortBuffer}
 use Rattle.record.specs.File.{File, sound, refused, theory_file}
@@ -8,16 +8,15 @@ use Rattle.record.specs.declared.Summary.{Summary}
 use Rattle.load.specs.Candidate.{candidate_words}
 use Rattle.load.specs.Loading.{loading}
 use Rattle.load.specs.Tables as tables
-use Rattle.load.specs.declared.Loaded as loaded
 use Rattle.plan.specs.Outcome as planning
 use Rattle.plan.specs.Outcome.{plan_outcome}
-use Rattle.plan.specs.declared.Planning as plans
 use Rattle.kept.specs.Tables.{Tables, atom_count}
 use Rattle.kept.specs.Candidate.{Candidate}
 use Rattle.kept.specs.Outcome as checks
 use Rattle.kept.specs.Outcome.{outcome}
 use Rattle.series.specs.Lent.{lent}
 use Rattle.text.specs.Lines.{theory_line, ranks_line, verdict_line, refused_line}
+use Rattle.theory.specs.declared.Refusal.{Refusal}
 
 -- ---- the checks
 
@@ -39,7 +38,7 @@ check_lines T i (c ∷ cs) ws = check_line i (outcome 64 8 T (candidate_of T c) 
 unfoldable pub own_plan : Counts → List ℕ → List ℕ → List ℕ → planning.Outcome
 own_plan t nodes operands roots = plan_outcome t nodes operands roots (replicate 2048 0) (replicate 512 0) (replicate 6658 0) (replicate 15376 0)
 
-unfoldable pub answered : Counts → List ℕ → List ℕ → List ℕ → List (List ℕ) → planning.Outcome → plans.Planning → List ℕ
+unfoldable pub answered : Counts → List ℕ → List ℕ → List ℕ → List (List ℕ) → planning.Outcome → Result ℕ Refusal → List ℕ
 answered t nodes operands roots cs o (Ok p) =
     (theory_line t p ++ ranks_line (take t.atoms o.ranks)) ++ check_lines (lent t nodes operands roots p o) 0 cs (replicate 4112 0)
 answered t nodes operands roots cs o (Err r) = refused_line r
@@ -53,7 +52,7 @@ planned_text t nodes operands roots cs o = answered t nodes operands roots cs o 
 abbrev pub own_tables : tables.Tables
 own_tables = tables.tables (replicate 3072 0) (replicate 1024 0) (replicate 512 0)
 
-unfoldable pub loaded_text : List (List ℕ) → loaded.Loaded → tables.Tables → List ℕ
+unfoldable pub loaded_text : List (List ℕ) → Result Summary Refusal → tables.Tables → List ℕ
 loaded_text cs (Ok s) b = planned_text s.counts b.nodes b.operands b.roots cs (own_plan s.counts b.nodes b.operands b.roots)
 loaded_text cs (Err r) b = refused_line r
 

@@ -1,6 +1,6 @@
 -- What the text is at each exit of a run.
 -- Assumes nothing.
-use Rattle.std.specs.Prelude.{ℕ, ◌<◌, ◌≤◌, ◌≡◌, Bool, true, false, cond, List, ◌++◌, ltb, length, take, replicate, Ok, Err}
+use Rattle.std.specs.Prelude.{ℕ, ◌<◌, ◌≤◌, ◌≡◌, Bool, true, false, cond, List, ◌++◌, ltb, length, take, replicate, Ok, Err, Result}
 use Rattle.std.proofs.Common.{arith, ap, ◌∙◌, length-append, length-take, lt-ltb, le-ltb}
 use Rattle.std.proofs.Math.Path.{sym}
 use Rattle.theory.specs.Limits.{Lent}
@@ -14,11 +14,9 @@ use Rattle.record.proofs.Judging.{contents_of, sound-is, refused_is}
 use Rattle.load.specs.Loading as loading
 use Rattle.load.specs.Loading.{loading, loading_sound}
 use Rattle.load.specs.Tables as tables
-use Rattle.load.specs.declared.Loaded as loaded
 use Rattle.load.proofs.Loads as ways
 use Rattle.load.proofs.Admitted.{loaded_sound}
 use Rattle.plan.specs.Outcome as planning
-use Rattle.plan.specs.declared.Planning as plans
 use Rattle.evaluate.specs.Checks.{tables_of}
 use Rattle.text.specs.Lines.{theory_line, ranks_line, refused_line}
 use Rattle.text.specs.LinesLaws.{length-theory_line, length-ranks_line}
@@ -30,7 +28,7 @@ pub length_head : (t : Counts) (p : ℕ) (ranks : List ℕ) → t.atoms ≤ 512 
 length_head t p ranks h =
     simp length-append (omega (arith, length-theory_line t p, length-ranks_line (take t.atoms ranks), length-take t.atoms ranks))
 
-module _ (t : Counts) (nodes operands roots : List ℕ) (cs : List (List ℕ)) (a : plans.Planning) (ps rs us ws : List ℕ)
+module _ (t : Counts) (nodes operands roots : List ℕ) (cs : List (List ℕ)) (a : Result ℕ Refusal) (ps rs us ws : List ℕ)
     (e : planning.outcome a ps rs us ws ≡ own_plan t nodes operands roots) where
   pub plan_refused : (r : Refusal) → a ≡ Err r → refused_line r ≡ planned_text t nodes operands roots cs (own_plan t nodes operands roots)
   unfolding planned_text answered
@@ -68,7 +66,7 @@ module _ (f : File) (s : Summary) (sounds : verdict f ≡ Ok s) where
   unfolding sound_text
   too_many_atoms h = rw (lt-ltb 512 s.counts.atoms h)
 
-  module _ (few : s.counts.atoms ≤ 512) (a : loaded.Loaded) (b : tables.Tables) (e : loading.outcome a b ≡ loading f own_tables) where
+  module _ (few : s.counts.atoms ≤ 512) (a : Result Summary Refusal) (b : tables.Tables) (e : loading.outcome a b ≡ loading f own_tables) where
     within : loaded_text (candidates_of f) (loading f own_tables).answer (loading f own_tables).left ≡ sound_text s f
     unfolding sound_text
     within = rw (le-ltb 512 s.counts.atoms few)
@@ -117,13 +115,13 @@ some_of : (b : Bool) (x y : List ℕ) → 0 < length x → 0 < length y → 0 < 
 some_of true x y p q = p
 some_of false x y p q = q
 
-answered-some : (t : Counts) (nodes operands roots : List ℕ) (cs : List (List ℕ)) (o : planning.Outcome) (a : plans.Planning)
+answered-some : (t : Counts) (nodes operands roots : List ℕ) (cs : List (List ℕ)) (o : planning.Outcome) (a : Result ℕ Refusal)
     → 0 < length (answered t nodes operands roots cs o a)
 unfolding answered theory_line
 answered-some t nodes operands roots cs o (Ok p) = omega arith
 answered-some t nodes operands roots cs o (Err r) = refusal_some r
 
-loaded_some : (cs : List (List ℕ)) (a : loaded.Loaded) (b : tables.Tables) → 0 < length (loaded_text cs a b)
+loaded_some : (cs : List (List ℕ)) (a : Result Summary Refusal) (b : tables.Tables) → 0 < length (loaded_text cs a b)
 unfolding loaded_text planned_text
 loaded_some cs (Ok s) b = answered-some s.counts b.nodes b.operands b.roots cs (own_plan s.counts b.nodes b.operands b.roots) _
 loaded_some cs (Err r) b = refusal_some r

@@ -14,11 +14,9 @@ ghost use Rattle.run.specs.Text.{candidate_of, check_line, check_lines, own_plan
 ghost use Rattle.run.specs.Run.{run_of, running};
 
 use evaluate::Plan;
-use load::Loaded;
-use plan::Planning;
-use record::{Judged, Mark, Summary};
+use record::{Mark, Summary};
 use theory::{Counts, Refusal};
-use update::Checked;
+use update::Accepted;
 
 // Where the next candidate stands in the file, and where the text goes on.
 #[derive(Clone, Copy)]
@@ -28,13 +26,13 @@ pub struct Next {
 }
 
 // The line of a check.
-fn put_checked(out: &mut [u8], at: usize, i: usize, checked: Checked) -> usize
+fn put_checked(out: &mut [u8], at: usize, i: usize, checked: Result<Accepted, Refusal>) -> usize
     requires { at ≤ 2 ^ 40 }
     ensures { Put out.old at (check_line i (answer_of checked)) result out.new }
 {
     match checked {
-        Checked::Accepted(v, n) => text::verdict_line(out, at, i, v, n),
-        Checked::Refused(r) => text::refused_line(out, at, r),
+        Ok(a) => text::verdict_line(out, at, i, a.verdict, a.visited),
+        Err(r) => text::refused_line(out, at, r),
     }
 }
 
@@ -98,16 +96,13 @@ fn check_lines(
     let mut kept = [0u32; 4112];
     let mut place = s.first;
     let mut end = at;
-    let mut i = 0;
-    let n = s.candidates;
-    while i < n {
+    for i in 0..s.candidates {
         let next = check_line(
             file, place, i, s.counts, plan, nodes, operands, roots, producers, readers, &mut words,
             &mut kept, out, end,
         );
         place = next.place;
         end = next.at;
-        i += 1;
     }
     end
 }
@@ -193,18 +188,6 @@ fn lines(file: &[u8], out: &mut [u8]) -> usize
     }
 }
 
-// The first `count` bytes of the source.
-fn copy(out: &mut [u8], source: &[u8], count: usize)
-    requires { (count ≤ length out.old) × (count ≤ length source.now) }
-    ensures { out.new ≡ take count source.now ++ drop count out.old }
-{
-    let mut i = 0;
-    while i < count {
-        out[i] = source[i];
-        i += 1;
-    }
-}
-
 // The text of the file at the front of the output, and its length; 0 and the output unaltered if it does not fit.
 pub fn run(file: &[u8], out: &mut [u8]) -> usize
     ensures { running result out.new ≡ run_of file.now out.old }
@@ -216,7 +199,7 @@ pub fn run(file: &[u8], out: &mut [u8]) -> usize
         return 0;
     }
     if n <= 16384 {
-        copy(out, &text, n);
+        out[..n].copy_from_slice(&text[..n]);
         return n;
     }
     lines(file, out)

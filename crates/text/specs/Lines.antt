@@ -1,6 +1,6 @@
 -- The lines that the user reads (document 01), as ASCII bytes.
 -- Assumes nothing.
-use Rattle.std.specs.Prelude.{ℕ, zero, suc, List, [], ◌∷◌, ◌++◌}
+use Rattle.std.specs.Prelude.{ℕ, List, [], ◌∷◌, ◌++◌, Option, Some, None}
 use Rattle.theory.specs.Refusal.{told}
 use Rattle.theory.specs.declared.Counts.{Counts}
 use Rattle.theory.specs.declared.Refusal.{Refusal}
@@ -73,11 +73,9 @@ unfoldable pub refused_line : Refusal → List ℕ
 refused_line r = refused_word ++ spaced (told r) ++ (10 ∷ [])
 
 -- the numbers that `Told` holds
-abbrev pub told_by : ℕ → ℕ → ℕ → ℕ → List ℕ
-told_by number place body zero = number ∷ place ∷ []
-told_by number place body (suc zero) = number ∷ place ∷ []
-told_by number place body (suc (suc zero)) = number ∷ place ∷ []
-told_by number place body (suc (suc (suc n))) = number ∷ place ∷ body ∷ []
+abbrev pub told_by : ℕ → ℕ → Option ℕ → List ℕ
+told_by number place None = number ∷ place ∷ []
+told_by number place (Some body) = number ∷ place ∷ body ∷ []
 
 abbrev pub told_of : Told → List ℕ
-told_of t = told_by t.number t.place t.body t.fields
+told_of t = told_by t.number t.place t.body

@@ -1,7 +1,7 @@
 -- The lines put piece by piece.
 -- Assumes nothing.
-use Rattle.std.specs.Prelude.{ℕ, zero, suc, ◌+◌, ◌≤◌, ◌<◌, ◌≡◌, refl, List, [], ◌∷◌, ◌++◌, length, get_or, take}
-use Rattle.std.proofs.Common.{add-one, arith, sym, ap, ◌∙◌, append_assoc, take-suc}
+use Rattle.std.specs.Prelude.{ℕ, ◌+◌, ◌<◌, ◌≡◌, List, [], ◌∷◌, ◌++◌, length, get_or, take, Option, Some, None}
+use Rattle.std.proofs.Common.{add-one, sym, ap, ◌∙◌, append_assoc, take-suc}
 use Rattle.theory.specs.Refusal.{told}
 use Rattle.theory.specs.declared.Counts.{Counts}
 use Rattle.theory.specs.declared.Refusal.{Refusal}
@@ -29,28 +29,13 @@ put_words_next ws i x h e a b =
 
 -- ---- what a refusal tells
 
-told_two : (number place body fields : ℕ) → fields < 3 → number ∷ place ∷ [] ≡ told_by number place body fields
-told_two number place body zero h = refl
-told_two number place body (suc zero) h = refl
-told_two number place body (suc (suc zero)) h = refl
-told_two number place body (suc (suc (suc n))) h = absurd (omega arith)
-
-told_three : (number place body fields : ℕ) → 3 ≤ fields → number ∷ place ∷ body ∷ [] ≡ told_by number place body fields
-told_three number place body zero h = absurd (omega arith)
-told_three number place body (suc zero) h = absurd (omega arith)
-told_three number place body (suc (suc zero)) h = absurd (omega arith)
-told_three number place body (suc (suc (suc n))) h = refl
-
-module _ (number place body fields : ℕ) {o0 o1 o2 : List ℕ} {e0 e1 e2 : ℕ}
+module _ (number place : ℕ) (body : Option ℕ) {o0 o1 o2 : List ℕ} {e0 e1 e2 : ℕ}
     (a : Put o0 e0 (spaced (number ∷ [])) e1 o1) (b : Put o1 e1 (spaced (place ∷ [])) e2 o2) where
-  pub put_told_two : fields < 3 → Put o0 e0 (spaced (told_by number place body fields)) e2 o2
-  put_told_two h =
-      put_same (ap spaced (told_two number place body fields h)) (put_number_more (number ∷ []) place a b)
+  pub put_told_two : body ≡ None → Put o0 e0 (spaced (told_by number place body)) e2 o2
+  put_told_two h = rw h (put_number_more (number ∷ []) place a b)
 
-  pub put_told_three : {o3 : List ℕ} {e3 : ℕ} → 3 ≤ fields → Put o2 e2 (spaced (body ∷ [])) e3 o3 → Put o0 e0 (spaced (told_by number place body fields)) e3 o3
-  put_told_three h d =
-      put_same (ap spaced (told_three number place body fields h))
-      (put_number_more (number ∷ place ∷ []) body (put_number_more (number ∷ []) place a b) d)
+  pub put_told_three : {o3 : List ℕ} {e3 : ℕ} (k : ℕ) → body ≡ Some k → Put o2 e2 (spaced (k ∷ [])) e3 o3 → Put o0 e0 (spaced (told_by number place body)) e3 o3
+  put_told_three k h d = rw h (put_number_more (number ∷ place ∷ []) k (put_number_more (number ∷ []) place a b) d)
 
 -- ---- lines
 

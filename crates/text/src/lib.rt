@@ -11,13 +11,12 @@ ghost use Rattle.text.specs.Lines.{spaced, theory_line, ranks_line, verdict_text
 use theory::{Counts, Refusal};
 use verdict::Verdict;
 
-// A refusal's numbers: `fields` of them, 2 or 3.
+// A refusal's numbers: two of them, and for 11 the body too.
 #[derive(Clone, Copy)]
 pub struct Told {
     pub number: usize,
     pub place: usize,
-    pub body: usize,
-    pub fields: usize,
+    pub body: Option<usize>,
 }
 
 fn put(out: &mut [u8], at: usize, byte: u8) -> usize
@@ -34,11 +33,9 @@ fn put_text(out: &mut [u8], at: usize, text: &[u8]) -> usize
     requires { (at ≤ 2 ^ 44) × (length text.now ≤ 1024) }
     ensures { Put out.old at text.now result out.new }
 {
-    let mut i = 0;
     let mut end = at;
-    while i < text.len() {
-        end = put(out, end, text[i]);
-        i += 1;
+    for byte in text {
+        end = put(out, end, *byte);
     }
     end
 }
@@ -91,11 +88,9 @@ fn put_words(out: &mut [u8], at: usize, words: &[u32]) -> usize
     requires { (at ≤ 2 ^ 42) × (length words.now ≤ 65536) }
     ensures { Put out.old at (spaced words.now) result out.new }
 {
-    let mut i = 0;
     let mut end = at;
-    while i < words.len() {
-        end = put_field(out, end, words::word(words, i));
-        i += 1;
+    for word in words {
+        end = put_field(out, end, *word as usize);
     }
     end
 }
@@ -137,8 +132,7 @@ fn two(number: usize, place: usize) -> Told
     Told {
         number,
         place,
-        body: 0,
-        fields: 2,
+        body: None,
     }
 }
 
@@ -160,8 +154,7 @@ pub fn numbers_of(r: Refusal) -> Told
         Refusal::UnsupportedBody(root, body) => Told {
             number: 11,
             place: root,
-            body,
-            fields: 3,
+            body: Some(body),
         },
         Refusal::PositiveCycle(atom) => two(12, atom),
         Refusal::RankShape => two(13, 0),
@@ -178,10 +171,10 @@ fn put_told(out: &mut [u8], at: usize, t: Told) -> usize
 {
     let mut end = put_field(out, at, t.number);
     end = put_field(out, end, t.place);
-    if t.fields >= 3 {
-        end = put_field(out, end, t.body);
+    match t.body {
+        Some(body) => put_field(out, end, body),
+        None => end,
     }
-    end
 }
 
 pub fn refused_line(out: &mut [u8], at: usize, r: Refusal) -> usize

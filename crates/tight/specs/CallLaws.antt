@@ -9,7 +9,7 @@ use Rattle.kept.specs.Candidate.{Candidate}
 use Rattle.kept.specs.Outcome as checking
 use Rattle.evaluate.specs.Checks.{outcome_of}
 use Rattle.update.specs.Results.{answer_of}
-use Rattle.update.specs.declared.Checked.{Checked}
+use Rattle.update.specs.Results.{Checked}
 use Rattle.answers.specs.Word.{planning_word, check_word}
 use Rattle.answers.specs.Fits.{PlanningFits, AnswerFits}
 use Rattle.answers.proofs.PlanFits.{plan_fits, certify_fits}

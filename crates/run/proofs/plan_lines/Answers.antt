@@ -13,8 +13,8 @@ returns-in-Err c = put_same
     (plan_refused c.args.s.counts c.args.nodes.now c.args.operands.now c.args.roots.now (candidates_in c.args.file.now) _ _ _ _ _ c.plan-planning.ensures _ c.in-Err.is)
     c.refused_line.ensures
 
-pub returns-in-Planned : goal.returns-in-Planned
+pub returns-in-Ok : goal.returns-in-Ok
 unfolding own_plan
-returns-in-Planned c = put_same
-    (plan_accepted c.args.s.counts c.args.nodes.now c.args.operands.now c.args.roots.now (candidates_in c.args.file.now) _ _ _ _ _ c.plan-planning.ensures _ c.in-Planned.is)
+returns-in-Ok c = put_same
+    (plan_accepted c.args.s.counts c.args.nodes.now c.args.operands.now c.args.roots.now (candidates_in c.args.file.now) _ _ _ _ _ c.plan-planning.ensures _ c.in-Ok.is)
     (put_then c.head_lines-end.ensures c.check_lines.ensures)

@@ -1,9 +1,9 @@
 use Rattle.run.specs.Text.{check_line}
 use Rattle.run.proofs.put_checked.Goals as goal
 
-pub returns-in-Accepted : goal.returns-in-Accepted
+pub returns-in-Ok : goal.returns-in-Ok
 unfolding check_line
-returns-in-Accepted c = rw c.in-Accepted.is c.verdict_line.ensures
+returns-in-Ok c = rw c.in-Ok.is c.verdict_line.ensures
 
 pub returns-in-Err : goal.returns-in-Err
 unfolding check_line

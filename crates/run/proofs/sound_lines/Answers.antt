@@ -9,5 +9,5 @@ returns-then-s-gt512 c = put_same (too_many_atoms (theory_file c.args.file.now) 
 pub returns-in-Err : goal.returns-in-Err
 returns-in-Err c = put_same (load_refused (theory_file c.args.file.now) c.args.s c.requires.0 c.if-s-gt512.false _ _ c.load_sound.ensures _ c.in-Err.is) c.refused_line-in-Err.ensures
 
-pub returns-in-Sound : goal.returns-in-Sound
-returns-in-Sound c = put_same (load-sound (theory_file c.args.file.now) c.args.s c.requires.0 c.if-s-gt512.false _ _ c.load_sound.ensures _ c.in-Sound.is) c.plan_lines.ensures
+pub returns-in-Ok : goal.returns-in-Ok
+returns-in-Ok c = put_same (load-sound (theory_file c.args.file.now) c.args.s c.requires.0 c.if-s-gt512.false _ _ c.load_sound.ensures _ c.in-Ok.is) c.plan_lines.ensures

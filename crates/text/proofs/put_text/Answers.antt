@@ -5,16 +5,15 @@ use lib.Seq.{take_all}
 use Rattle.text.specs.ClipLaws.{put_none, put_next, put_same}
 use Rattle.text.proofs.put_text.Goals as goal
 
-pub loop-i-init : goal.loop-i-init
-loop-i-init c = (search rules, search rules, refl, put_none c.args.out.now c.args.at)
+pub loop-byte-init : goal.loop-byte-init
+loop-byte-init c = (search rules, refl, put_none c.args.out.now c.args.at)
 
-pub loop-i-preserved : goal.loop-i-preserved
-loop-i-preserved c = (
-  search rules,
+pub loop-byte-preserved : goal.loop-byte-preserved
+loop-byte-preserved c = (
   omega (arith, c.put-end.ensures.on),
   search rules,
-  put_next c.args.text.now c.loop-i.i c.loop-i-test.true c.loop-i.invariant.3 c.put-end.ensures,
+  put_next c.args.text.now c.loop-byte.byte-index c.loop-byte-test.true c.loop-byte.invariant.2 c.put-end.ensures,
 )
 
 pub returns : goal.returns
-returns c = put_same (take_all c.loop-i.i c.args.text.now c.loop-i-test.false) c.loop-i.invariant.3
+returns c = put_same (take_all c.loop-byte.byte-index c.args.text.now c.loop-byte-test.false) c.loop-byte.invariant.2

@@ -1,11 +1,8 @@
-use Prim.Native.Nat.{◌+◌, ◌-◌, ◌≤◌}
+use Prim.Native.Nat.{◌+◌}
 use mathlib.Core.Path.{◌≡◌}
 use lib.ListN.{length, take}
 use Rattle.text.specs.Clip.{Put}
 use Rattle.text.proofs.put_text.Given as goal
 
-abbrev pub invariant-loop-i : goal.invariant-loop-i
-invariant-loop-i l = (l.i ≤ length l.text) × (l.end ≡ l.at + l.i) × (length l.out ≡ length l.initial.out) × Put l.initial.out l.at (take l.i l.text) l.end l.out
-
-abbrev pub decreases-loop-i : goal.decreases-loop-i
-decreases-loop-i l = length l.text - l.i
+abbrev pub invariant-loop-byte : goal.invariant-loop-byte
+invariant-loop-byte l = (l.end ≡ l.at + l.byte-index) × (length l.out ≡ length l.initial.out) × Put l.initial.out l.at (take l.byte-index l.text) l.end l.out
