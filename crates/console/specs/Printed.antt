@@ -4,13 +4,6 @@ use Rattle.std.specs.Prelude.{ℕ, cond, List, leb, length}
 use Rattle.theory.specs.declared.Refusal.TheVariants.{ShortBuffer}
 use Rattle.text.specs.Lines.{refused_line}
 use Rattle.run.specs.Text.{text_of}
-use Rattle.console.specs.declared.Input.{Input}
-use Rattle.console.specs.declared.Input.TheVariants.{Bytes, Failed}
-
--- the bytes that were read
-abbrev pub held : Input → ℕ
-held (Bytes n) = n
-held Failed = 0
 
 unfoldable pub printed_of : List ℕ → List ℕ
 printed_of file = cond (leb (length (text_of file)) 65536) (text_of file) (refused_line (ShortBuffer 9))

@@ -1,44 +1,31 @@
 // The lines of the program `tightcheck`: a theory file read from a reader, what is printed of it written to a writer.
 #![tactic(auto)]
 
-ghost use Rattle.std.specs.Prelude.{◌≡◌, ◌≤◌, length, take};
-ghost use Rattle.console.specs.Printed.{held, printed_of};
+ghost use Rattle.std.specs.Prelude.{◌≡◌, ◌≤◌, IfOk, length, take};
+ghost use Rattle.console.specs.Printed.{printed_of};
 
 use std::io;
 use std::io::{Read, Write};
 use theory::Refusal;
-
-#[derive(Clone, Copy)]
-pub enum Input {
-    Bytes(usize),
-    Failed,
-}
 
 // Tells on standard error what failed, and why.
 fn fail(rt: &impl Eprint, what: &str, why: &io::Error) {
     let _ = eprintln!(rt; "{what}: {why}");
 }
 
-// Reads until `file` is full or the input ends; a failed read is told apart from the end, and on standard error.
-fn read_file<R: Read>(rt: &impl Eprint, input: &mut R, file: &mut [u8]) -> Input
-    ensures { held result ≤ length file.new }
+// Reads until `file` is full or the input ends, and answers how many bytes it read.
+pub fn read_full<R: Read>(input: &mut R, file: &mut [u8]) -> io::Result<usize>
+    ensures { IfOk result (λ n. n ≤ length file.new) }
 {
     let mut n = 0;
     while n < file.len() {
-        match input.read(&mut file[n..]) {
-            Ok(more) => {
-                if more == 0 {
-                    return Input::Bytes(n);
-                }
-                n += more;
-            }
-            Err(e) => {
-                fail(rt, "tightcheck: reading the theory file", &e);
-                return Input::Failed;
-            }
+        let more = input.read(&mut file[n..])?;
+        if more == 0 {
+            break;
         }
+        n += more;
     }
-    Input::Bytes(n)
+    Ok(n)
 }
 
 // What is printed of the file, at the front of the output; answers its length.
@@ -67,8 +54,8 @@ fn print<W: Write>(rt: &impl Eprint, file: &[u8], output: &mut W) {
 pub fn answer<R: Read, W: Write>(rt: &impl Eprint, input: &mut R, output: &mut W) {
     // one byte more than a file may have is seen and refused
     let mut file = [0u8; 65537];
-    match read_file(rt, input, &mut file) {
-        Input::Bytes(n) => print(rt, &file[..n], output),
-        Input::Failed => {}
+    match read_full(input, &mut file) {
+        Ok(n) => print(rt, &file[..n], output),
+        Err(e) => fail(rt, "tightcheck: reading the theory file", &e),
     }
 }

@@ -1,15 +1,17 @@
 // Runs the files of document 01's drawings, its refusals and its slips, and prints their texts.
 #![tactic(auto)]
 
+ghost use Rattle.std.specs.Prelude.{◌<◌, ◌≤◌, length};
+
 use std::io;
 
 fn show(rt: &impl Print, file: &[u8]) -> io::Result<()> {
     let mut out = [0u8; 1024];
     let n = run::run(file, &mut out);
-    if n <= 1024 {
-        rt.write_all(&out[..n])?;
+    if let Some(text) = out.get(..n) {
+        rt.write_all(text)?;
     }
-    rt.write_all(b"\n")
+    println!(rt)
 }
 
 fn examples(rt: &impl Print) -> io::Result<()> {
@@ -116,46 +118,26 @@ fn slips(rt: &impl Print) -> io::Result<()> {
     show(rt, b"TH\xff\xff\xff\xff\x00\x00\x00\x00")
 }
 
-// Bytes i and i + 1 become a mark.
-fn put_mark(file: &mut [u8], i: usize, first: u8, second: u8) {
-    if i < 65536 {
-        if i + 1 < file.len() {
-            file[i] = first;
-            file[i + 1] = second;
-        }
+// Fills a file: TH 7 0 and one NF, and behind them one record over and over.
+fn fill(file: &mut [u8], record: &[u8])
+    requires { (12 ≤ length file.old) × (0 < length record.now) }
+{
+    let (head, rest) = file.split_at_mut(12);
+    head.copy_from_slice(b"TH\x07\x00\x00\x00\x00\x00\x00\x00NF");
+    for part in rest.chunks_exact_mut(record.len()) {
+        part.copy_from_slice(record);
     }
-}
-
-// n marks from byte 12 on, one every `step` bytes, behind TH 7 0 and one NF.
-fn put_marks(file: &mut [u8], n: usize, step: usize, first: u8, second: u8) {
-    put_mark(file, 0, 84, 72);
-    put_mark(file, 2, 7, 0);
-    put_mark(file, 10, 78, 70);
-    let mut i = 12;
-    let mut k = 0;
-    while k < n {
-        put_mark(file, i, first, second);
-        i = after(i, step);
-        k += 1;
-    }
-}
-
-fn after(i: usize, step: usize) -> usize {
-    if i < 65536 {
-        if step < 16 {
-            return i + step;
-        }
-    }
-    i
 }
 
 // 9: more nodes or roots than the run's own tables hold
 fn too_many(rt: &impl Print) -> io::Result<()> {
+    // 1,025 nodes
     let mut nodes = [0u8; 2060];
-    put_marks(&mut nodes, 1024, 2, 78, 70);
+    fill(&mut nodes, b"NF");
     show(rt, &nodes)?;
+    // 513 roots
     let mut roots = [0u8; 3090];
-    put_marks(&mut roots, 513, 6, 82, 84);
+    fill(&mut roots, b"RT\x00\x00\x00\x00");
     show(rt, &roots)
 }
 
