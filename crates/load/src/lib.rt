@@ -25,7 +25,7 @@ fn number32(file: &[u8], at: usize) -> u32
     record::number(file, at) as u32
 }
 
-// The words of a node, of a record that is one; a span begins at `begin`.
+// The three words of a node, if the record is one; a span begins at `begin`.
 #[tactic(auto, using(record::proofs::Laws::length_numbers, record::proofs::Laws::one_number, record::proofs::Laws::two_numbers))]
 fn node_words(file: &[u8], begin: usize, mark: Mark, v: Values) -> Option<[u32; 3]>
     requires { (v.start + 4 * v.count ≤ length file.now) × (arity mark ≤ v.count) × (v.count < 4294967296) × (begin < 4294967296) }
