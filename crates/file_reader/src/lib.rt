@@ -47,7 +47,7 @@ impl<'a> Reader<'a> {
     // The atoms of the candidate at the reader, into the set; the reader goes on past the record.
     fn candidate(&mut self, words: &mut [u64])
         requires { Fitting self.old.file.now self.old.offset (length words.old) }
-        ensures { (self.new.offset ≡ record_end self.old.file.now self.old.offset Mark.Candidate) × (words.new ≡ inserted_all words.old (values_of self.old.file.now self.old.offset Mark.Candidate)) }
+        ensures { (self.new.file ≡ self.old.file) × (self.new.offset ≡ record_end self.old.file.now self.old.offset Mark.Candidate) × (words.new ≡ inserted_all words.old (values_of self.old.file.now self.old.offset Mark.Candidate)) }
     {
         self.offset = candidate_at(self.file, self.offset, words);
     }

@@ -48,6 +48,8 @@ module _ (file : List ℕ) (from count : ℕ) (xs ys : List ℕ) (at i : ℕ) (s
       so_far
       ∙ rw (← e, take_all count (numbers file from count) (omega (arith, length_numbers file from count)), length_numbers file from count)
 
+pub ruleset copy_turns = (copy_more, paste-zero)
+
 -- ---- what a record adds
 
 pub sizes : (t : Counts) (b : ℕ) (mark : Mark) (vs : List ℕ)

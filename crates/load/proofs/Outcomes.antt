@@ -47,3 +47,5 @@ module _ (file : List ℕ) (s : Summary) (b : Tables) (e : verdict (theory_file 
       all_stored left h q =
           rw (q, tables_hold file s b e)
           (rw (le-ltb (length b.nodes) (3 * s.counts.nodes) long, le-ltb (length b.operands) s.counts.operands so-long, le-ltb (length b.roots) s.counts.roots h) at whole)
+
+pub ruleset exits = (short_nodes, short_operands, short_roots, all_stored)

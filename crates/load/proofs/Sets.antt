@@ -58,6 +58,8 @@ candidate-front atoms vs ws cleared filled e p q =
     (inserted_all-front (replicate (word_count atoms) 0) (drop (word_count atoms) ws) vs
     (words_below atoms (length (replicate {A = ℕ} (word_count atoms) 0)) vs e (omega (arith, length-replicate {A = ℕ} (word_count atoms) 0))))
 
+pub ruleset candidate_laws = (words_below, cleared-front, length-cleared, candidate-front)
+
 -- ---- the members of a candidate's words are its atoms
 
 regrouped : (a b c : Bool) → (a || (b || c)) ≡ ((b || a) || c)

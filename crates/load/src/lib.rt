@@ -25,7 +25,7 @@ fn number32(file: &[u8], at: usize) -> u32
     record::number(file, at) as u32
 }
 
-// The words of a node, of a record that is one; a span begins at `begin`.
+// The three words of a node, if the record is one; a span begins at `begin`.
 #[tactic(auto, using(record::proofs::Laws::length_numbers, record::proofs::Laws::one_number, record::proofs::Laws::two_numbers))]
 fn node_words(file: &[u8], begin: usize, mark: Mark, v: Values) -> Option<[u32; 3]>
     requires { (v.start + 4 * v.count ≤ length file.now) × (arity mark ≤ v.count) × (v.count < 4294967296) × (begin < 4294967296) }
@@ -52,6 +52,7 @@ fn put(nodes: &mut [u32], at: usize, added: Option<[u32; 3]>)
 }
 
 // So many numbers of the file, into the table from `at` on.
+#[tactic(auto, using(crate::proofs::Laws::copy_turns))]
 fn copy(file: &[u8], from: usize, count: usize, table: &mut [u32], at: usize)
     requires { (from + 4 * count ≤ length file.now) × (at + count ≤ length table.old) }
     ensures { table.new ≡ placed table.old at (numbers file.now from count) }
@@ -131,6 +132,7 @@ fn store_all(file: &[u8], nodes: &mut [u32], operands: &mut [u32], roots: &mut [
 }
 
 // A sound file, as judged: 9, or else the tables. Between crates: a caller has the summary from `record::judge`.
+#[tactic(auto, using(crate::proofs::Outcomes::exits))]
 pub fn load_sound(
     file: &[u8],
     s: Summary,
@@ -169,6 +171,7 @@ pub fn load(
 
 // The candidate that begins at `at`, as a set of atoms, by the reader of crate `file_reader`; answers where the next record begins.
 // Between crates: a caller has the place from a sound file (`sound_candidates`).
+#[tactic(auto, using(crate::proofs::Sets::candidate_laws))]
 pub fn candidate(file: &[u8], at: usize, atoms: usize, words: &mut [u64]) -> usize
     requires { CandidateAt file.now atoms at × (atoms ≤ 65536) × (word_count atoms ≤ length words.old) }
     ensures { (result ≡ record_end file.now at Mark.Candidate) × (words.new ≡ candidate_words atoms (values_of file.now at Mark.Candidate) ++ drop (word_count atoms) words.old) }
