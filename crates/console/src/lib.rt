@@ -33,6 +33,7 @@ pub fn read_full<R: Read>(input: &mut R, file: &mut [u8]) -> io::Result<usize>
 fn printed(file: &[u8], out: &mut [u8; 65536]) -> usize
     ensures { (result ≤ 65536) × (take result out.new ≡ printed_of file.now) }
 {
+    // 0 where the text is longer than the output
     let n = run::run(file, out);
     if n == 0 {
         text::refused_line(out, 0, Refusal::ShortBuffer(9))
