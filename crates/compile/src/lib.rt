@@ -47,10 +47,10 @@ pub fn maximum_operand(operands: &[u32], values: &[u32], start: usize, count: us
     ensures upper_bound { result < 4294967296 }
 {
     let end = start + count;
-    let mut value = 0;
+    let mut value: usize = 0;
     for i in start..end {
         let child = words::word(operands, i);
-        value = words::greater(value, words::word(values, child));
+        value = value.max(words::word(values, child));
     }
     value
 }

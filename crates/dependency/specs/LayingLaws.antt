@@ -85,23 +85,6 @@ module _ (t : Counts) (nodes operands roots : List ℕ) (v : ℕ) (area : List �
             );
           }
 
-    -- a place without one
-    pub laid_skip : (d : Cursor) → Moved t nodes operands (take t.nodes area) roots l.cursor d [] → LaidNext t nodes operands roots v area area l (Some (record { laid = l.laid; cursor = d }))
-    laid_skip d step =
-        let same = step.grown ∙ append-nil (before t nodes operands (take t.nodes area) roots l.cursor) in
-        record {
-          long = refl;
-          classes = refl;
-          laid = (
-            record { range = step.range; number = rw same b.number; room = omega (arith, b.room, step.less); laid = rw same b.laid },
-            step.less,
-          );
-        }
-
-    pub laid_all : before t nodes operands (take t.nodes area) roots l.cursor ≡ dependencies t nodes operands (take t.nodes area) roots
-        → LaidNext t nodes operands roots v area area l None
-    laid_all e = record { long = refl; classes = refl; laid = rw e at b.laid }
-
 -- ---- the loop that lays all
 
 -- what holds between two steps: area₀ at the start, area now

@@ -39,21 +39,6 @@ fn same_pair(candidate: &[u64], kept: &[u32], at: usize, j: usize) -> bool
     pair(kept, at + 2 * j) == candidate[j]
 }
 
-// The first pair from `first` on, below `end`, that is not the same, else `end`.
-fn next_changed(candidate: &[u64], kept: &[u32], at: usize, first: usize, end: usize) -> usize
-    requires { (first ≤ end) × (end ≤ length candidate.now) × (at + 2 * end ≤ length kept.now) }
-    ensures { (first ≤ result) × (result ≤ end) × SameFrom at kept.now candidate.now first result }
-{
-    let mut j = first;
-    while j < end {
-        if !same_pair(candidate, kept, at, j) {
-            return j;
-        }
-        j += 1;
-    }
-    j
-}
-
 // At how many atoms pair j differs; it is marked.
 fn pair_changes(candidate: &[u64], kept: &[u32], at: usize, j: usize, marks: &mut [u64]) -> usize
     requires { (j < length candidate.now) × (at + 2 * j + 1 < length kept.now) × (j / 64 < length marks.old) }
@@ -64,6 +49,30 @@ fn pair_changes(candidate: &[u64], kept: &[u32], at: usize, j: usize, marks: &mu
     words::set64::changed(pair(kept, at + 2 * j), candidate[j]) as usize
 }
 
+// d, what is found of the pairs before pair j, with pair j added, which is marked if it differs.
+fn with_pair(
+    candidate: &[u64],
+    kept: &[u32],
+    at: usize,
+    j: usize,
+    marks: &mut [u64],
+    d: Differing,
+) -> Differing
+    requires bounds { (j < 1024) × (j < length candidate.now) × (at + 2 * j + 1 < length kept.now) × (j < 64 * length marks.old) }
+    requires found { Found at kept.now candidate.now (2 * j) marks.old d }
+    ensures { Found at kept.now candidate.now (2 * (j + 1)) marks.new result × (result.first ≤ d.first) }
+{
+    if same_pair(candidate, kept, at, j) {
+        return d;
+    }
+    let changes = d.changes + pair_changes(candidate, kept, at, j, marks);
+    Differing {
+        changes,
+        first: d.first.min(j),
+        end: j + 1,
+    }
+}
+
 // d, what is found of the pairs before `first`, with pairs `first` to `end` added; those that differ are marked.
 fn pairs_changes(
     candidate: &[u64],
@@ -72,27 +81,16 @@ fn pairs_changes(
     first: usize,
     end: usize,
     marks: &mut [u64],
-    d: Differing,
+    mut d: Differing,
 ) -> Differing
     requires first_le_end { (first ≤ end) × (end ≤ 1024) × (end ≤ length candidate.now) × (at + 2 * end ≤ length kept.now) × (end ≤ 64 * length marks.old) }
     requires found { Found at kept.now candidate.now (2 * first) marks.old d }
     ensures { Found at kept.now candidate.now (2 * end) marks.new result × (result.first ≤ d.first) }
 {
-    let mut sum = d.changes;
-    let mut low = d.first;
-    let mut high = d.end;
-    let mut j = next_changed(candidate, kept, at, first, end);
-    while j < end {
-        sum = sum + pair_changes(candidate, kept, at, j, marks);
-        low = words::smaller(low, j);
-        high = j + 1;
-        j = next_changed(candidate, kept, at, j + 1, end);
+    for j in first..end {
+        d = with_pair(candidate, kept, at, j, marks, d);
     }
-    Differing {
-        changes: sum,
-        first: low,
-        end: high,
-    }
+    d
 }
 
 // Whether the 16 pairs from `first` on are all the same; no branch in the loop, so that several are compared at once.
@@ -100,12 +98,9 @@ fn same_block(candidate: &[u64], kept: &[u32], at: usize, first: usize) -> bool
     requires { (first + 16 ≤ length candidate.now) × (at + 2 * (first + 16) ≤ length kept.now) }
     ensures { result ≡ true → SameFrom at kept.now candidate.now first (first + 16) }
 {
-    let end = first + 16;
     let mut d = 0u64;
-    let mut j = first;
-    while j < end {
+    for j in first..first + 16 {
         d = d | (candidate[j] ^ pair(kept, at + 2 * j));
-        j += 1;
     }
     d == 0
 }
@@ -160,11 +155,9 @@ fn all_changes(
         first: pairs,
         end: 0,
     };
-    let mut j = 0;
-    while j < pairs {
-        let end = words::smaller(j + 16, pairs);
+    for j in (0..pairs).step_by(16) {
+        let end = (j + 16).min(pairs);
         d = block_changes(candidate, kept, at, j, end, marks, d);
-        j = end;
     }
     d
 }
@@ -190,7 +183,7 @@ fn last_change(
     words::set64::insert(marks, pairs);
     let changes = d.changes + (words::set32::changed(old, new) as usize);
     Differing {
-        changes: changes,
+        changes,
         first: d.first,
         end: pairs + 1,
     }

@@ -16,7 +16,7 @@ use Rattle.record.specs.Layout.{counted, arity, value_count, values_start, recor
 use Rattle.record.specs.declared.Stage.{Stage}
 use Rattle.record.specs.declared.Mark.{Mark}
 use Rattle.record.specs.declared.Mark.TheVariants.{Theory, Atom, False, Implies, And, Or, Root, Candidate, Unknown}
-use Rattle.record.proofs.Laws.{length-numbers}
+use Rattle.record.proofs.Laws.{length_numbers}
 use Rattle.record.proofs.Steps.{end_past}
 use Rattle.encoding.specs.Encoding.{number_bytes, record_bytes}
 use Rattle.encoding.specs.Sound.{Below}
@@ -151,7 +151,7 @@ module _ (file : List ℕ) (bytes : Below 256 file) (at : ℕ) (stage : Stage) (
       let vs = numbers file (at + 6) count in
       let on : at + 2 + 4 ≡ at + 6 = omega arith in
       number-written file bytes (at + 2) (omega arith)
-      ∙ rw (on, length-numbers file (at + 6) count, append_assoc (number_bytes count) (flat_map number_bytes vs) (drop (at + 6 + 4 * count) file), ← numbers-written file bytes count (at + 6) h)
+      ∙ rw (on, length_numbers file (at + 6) count, append_assoc (number_bytes count) (flat_map number_bytes vs) (drop (at + 6 + 4 * count) file), ← numbers-written file bytes count (at + 6) h)
   laid_back false h = numbers-written file bytes (arity mark) (at + 2) h
 
   pub written : drop at file ≡ form_of mark (values_of file at mark) ++ drop (record_end file at mark) file

@@ -26,7 +26,7 @@ use Rattle.record.specs.declared.Cursor.{Cursor}
 use Rattle.record.specs.declared.Mark.{Mark}
 use Rattle.record.specs.declared.Mark.TheVariants as mark
 use Rattle.record.specs.declared.Summary.{Summary}
-use Rattle.record.proofs.Laws.{length-numbers}
+use Rattle.record.proofs.Laws.{length_numbers}
 use Rattle.record.proofs.Stages.{is_nodes}
 use Rattle.record.proofs.Steps.{unless_next, end_past, Passed, next_passed, passed_fields, begun}
 use Rattle.record.proofs.Judging.{read-refused, read_next}
@@ -170,7 +170,7 @@ module _ (file : List ℕ) (bytes : Below 256 file) where
 
   fixed : (at : ℕ) (kind : Mark) → counted kind ≡ false → length (values_of file at kind) ≡ arity kind
   unfolding values_of value_count
-  fixed at kind e = length-numbers file _ _ ∙ rw e
+  fixed at kind e = length_numbers file _ _ ∙ rw e
 
   back : (c next : Cursor) → at_start c.stage ≡ false → Rest next → (kind : Mark) → mark_at file c.at ≡ kind → Passed file c next kind (values_of file c.at kind) → Rest c
   unfolding form_of node_bytes root_bytes candidate_bytes judged_values

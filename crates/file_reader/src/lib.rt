@@ -26,6 +26,7 @@ fn insert_all(file: &[u8], from: usize, count: usize, words: &mut [u64])
 }
 
 // The atoms of the candidate that begins at `at`, into the set; answers where the record ends.
+#[tactic(auto, unfolding(record::specs::Layout::record_end, record::specs::Layout::values_of))]
 fn candidate_at(file: &[u8], at: usize, words: &mut [u64]) -> usize
     requires { Fitting file.now at (length words.old) }
     ensures { (result ≡ record_end file.now at Mark.Candidate) × (words.new ≡ inserted_all words.old (values_of file.now at Mark.Candidate)) }

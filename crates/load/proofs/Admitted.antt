@@ -22,7 +22,7 @@ use Rattle.record.specs.declared.Stage.{Stage}
 use Rattle.record.specs.declared.Cursor.{Cursor}
 use Rattle.record.specs.declared.Mark.{Mark}
 use Rattle.record.specs.declared.Summary.{Summary}
-use Rattle.record.proofs.Laws.{length-numbers}
+use Rattle.record.proofs.Laws.{length_numbers}
 use Rattle.record.proofs.Steps.{next_passed, passed_fields, begun, fixed_least}
 use Rattle.record.proofs.Judging.{read_keeps, sound-limited}
 use Rattle.load.specs.Tables.{Tables, over, holding}
@@ -33,7 +33,7 @@ use Rattle.load.proofs.Formed.{Formed, record_formed, formed_extends}
 
 pub length-values : (file : List ℕ) (at : ℕ) (mark : Mark) → length (values_of file at mark) ≡ value_count file at mark
 unfolding values_of
-length-values file at mark = length-numbers file _ (value_count file at mark)
+length-values file at mark = length_numbers file _ (value_count file at mark)
 
 FormedAt : Cursor → Contents → Type 0
 FormedAt c t = Formed c.stage c.counts t.nodes t.operands t.roots

@@ -18,7 +18,7 @@ use Rattle.record.specs.declared.Cursor.{Cursor}
 use Rattle.record.specs.declared.Mark.{Mark}
 use Rattle.record.specs.declared.Mark.TheVariants.{Theory, Atom, False, Implies, And, Or, Root, Candidate, Unknown}
 use Rattle.record.specs.declared.Values.{Values}
-use Rattle.record.proofs.Laws.{length-numbers, numbers_at}
+use Rattle.record.proofs.Laws.{length_numbers, numbers_at}
 use Rattle.load.specs.Tables.{tables}
 use Rattle.load.specs.Store.{placed, operand_count, root_count, stored}
 use Rattle.load.specs.Room.{Stands}
@@ -40,13 +40,13 @@ module _ (file : List ℕ) (from count : ℕ) (xs ys : List ℕ) (at i : ℕ) (s
       → set ys (at + i) x ≡ paste xs at (numbers file from count) (i + 1)
   copy_more x h l e =
       rw (add-one, so_far, e ∙ sym (numbers_at file from i count l))
-      (paste-suc xs at (numbers file from count) i 0 (omega arith) (omega (arith, length-numbers file from count)))
+      (paste-suc xs at (numbers file from count) i 0 (omega arith) (omega (arith, length_numbers file from count)))
 
   pub copy_done : count ≡ i → ys ≡ placed xs at (numbers file from count)
   unfolding placed
   copy_done e =
       so_far
-      ∙ rw (← e, take_all count (numbers file from count) (omega (arith, length-numbers file from count)), length-numbers file from count)
+      ∙ rw (← e, take_all count (numbers file from count) (omega (arith, length_numbers file from count)), length_numbers file from count)
 
 -- ---- what a record adds
 
@@ -64,18 +64,18 @@ sizes t b Root vs = (omega arith, omega arith, omega arith)
 sizes t b Candidate vs = (omega arith, omega arith, omega arith)
 sizes t b Unknown vs = (omega arith, omega arith, omega arith)
 
-pub counts-room : (file : List ℕ) (from count : ℕ) (t : Counts) (mark : Mark)
+pub counts_room : (file : List ℕ) (from count : ℕ) (t : Counts) (mark : Mark)
     → (t.operands + operand_count mark count ≡ (counts_after t mark (numbers file from count)).operands) × (operand_count mark count ≤ count)
     × (t.roots + root_count mark count ≡ (counts_after t mark (numbers file from count)).roots) × (root_count mark count ≤ count)
-counts-room file from count t Theory = (omega arith, omega arith, omega arith, omega arith)
-counts-room file from count t Atom = (omega arith, omega arith, omega arith, omega arith)
-counts-room file from count t False = (omega arith, omega arith, omega arith, omega arith)
-counts-room file from count t Implies = (omega arith, omega arith, omega arith, omega arith)
-counts-room file from count t And = (omega (arith, length-numbers file from count), omega arith, omega arith, omega arith)
-counts-room file from count t Or = (omega (arith, length-numbers file from count), omega arith, omega arith, omega arith)
-counts-room file from count t Root = (omega arith, omega arith, omega (arith, length-numbers file from count), omega arith)
-counts-room file from count t Candidate = (omega arith, omega arith, omega arith, omega arith)
-counts-room file from count t Unknown = (omega arith, omega arith, omega arith, omega arith)
+counts_room file from count t Theory = (omega arith, omega arith, omega arith, omega arith)
+counts_room file from count t Atom = (omega arith, omega arith, omega arith, omega arith)
+counts_room file from count t False = (omega arith, omega arith, omega arith, omega arith)
+counts_room file from count t Implies = (omega arith, omega arith, omega arith, omega arith)
+counts_room file from count t And = (omega (arith, length_numbers file from count), omega arith, omega arith, omega arith)
+counts_room file from count t Or = (omega (arith, length_numbers file from count), omega arith, omega arith, omega arith)
+counts_room file from count t Root = (omega arith, omega arith, omega (arith, length_numbers file from count), omega arith)
+counts_room file from count t Candidate = (omega arith, omega arith, omega arith, omega arith)
+counts_room file from count t Unknown = (omega arith, omega arith, omega arith, omega arith)
 
 pub operands_of_lem : (file : List ℕ) (from count b : ℕ) (mark : Mark) → numbers file from (operand_count mark count) ≡ (of_record b mark (numbers file from count)).operands
 unfolding numbers

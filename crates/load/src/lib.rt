@@ -1,7 +1,7 @@
 // The tables and the candidates of a theory file, written into lent buffers.
 #![tactic(auto)]
 
-ghost use Rattle.std.specs.Prelude.{◌≡◌, ◌++◌, ◌+◌, ◌*◌, ◌<◌, ◌≤◌, length, drop, replicate};
+ghost use Rattle.std.specs.Prelude.{◌≡◌, ◌++◌, ◌+◌, ◌*◌, ◌<◌, ◌≤◌, length, drop};
 ghost use Rattle.theory.specs.Limits.{Limited, Lent};
 ghost use Rattle.record.specs.Number.{number, numbers};
 ghost use Rattle.record.specs.Layout.{arity, record_end, values_of};
@@ -26,6 +26,7 @@ fn number32(file: &[u8], at: usize) -> u32
 }
 
 // The words of a node, of a record that is one; a span begins at `begin`.
+#[tactic(auto, using(record::proofs::Laws::length_numbers, record::proofs::Laws::one_number, record::proofs::Laws::two_numbers))]
 fn node_words(file: &[u8], begin: usize, mark: Mark, v: Values) -> Option<[u32; 3]>
     requires { (v.start + 4 * v.count ≤ length file.now) × (arity mark ≤ v.count) × (v.count < 4294967296) × (begin < 4294967296) }
     ensures { words_of result ≡ (of_record begin mark (numbers file.now v.start v.count)).nodes }
@@ -40,6 +41,7 @@ fn node_words(file: &[u8], begin: usize, mark: Mark, v: Values) -> Option<[u32; 
     }
 }
 
+#[tactic(auto, using(crate::proofs::Laws::placed_none, crate::proofs::Laws::placed_part))]
 fn put(nodes: &mut [u32], at: usize, added: Option<[u32; 3]>)
     requires { at + length (words_of added) ≤ length nodes.old }
     ensures { nodes.new ≡ placed nodes.old at (words_of added) }
@@ -80,6 +82,7 @@ fn root_count(mark: Mark, count: usize) -> usize
 }
 
 // The record at the cursor, into the tables.
+#[tactic(auto, using(record::proofs::Steps::fixed_least, crate::proofs::Laws::counts_room))]
 fn store(
     file: &[u8],
     c: Cursor,
@@ -104,6 +107,7 @@ fn store(
     copy(file, v.start, root_count(mark, v.count), roots, t.roots);
 }
 
+#[tactic(auto, using(record::proofs::Steps::fixed_least))]
 fn next_cursor(file: &[u8], c: Cursor, mark: Mark, v: Values) -> Cursor
     requires { Within (length file.now) c × Stands file.now c mark v }
     ensures { result ≡ passed c mark (counts_after c.counts mark (numbers file.now v.start v.count)) (v.start + 4 * v.count) }

@@ -109,14 +109,11 @@ fn judge(
     let n = counts.nodes;
     match proposed {
         Some(given) => ranks::rank_check(counts, nodes, operands, roots, given, area, n),
-        None => dependency::derive_ranks(
-            counts,
-            nodes,
-            operands,
-            roots,
-            area,
-            counts.atoms + n,
-        ).map_err(|cycle| Refusal::PositiveCycle(cycle.atom)),
+        None => {
+            let v = counts.atoms + n;
+            dependency::derive_ranks(counts, nodes, operands, roots, area, v)
+                .map_err(|cycle| Refusal::PositiveCycle(cycle.atom))
+        }
     }
 }
 

@@ -131,7 +131,7 @@ impl Pass for Placing {
     ghost after = { placed };
 
     fn enter(table: &mut [u64], slot: usize, entry: u64) {
-        let at = words::word64(table, slot + 1);
+        let at = words::word(table, slot + 1);
         table[at] = entry;
         table[slot + 1] = (at + 1) as u64;
     }
@@ -266,7 +266,7 @@ pub fn in_order_from(table: &[u64], listed: usize, s: usize, start: usize) -> bo
     requires { (s + 1 < length table.now) × (start ≡ get_or table.now s 0) }
     ensures { result ≡ in_order table.now listed s }
 {
-    ordered(start, words::word64(table, s + 1), listed)
+    ordered(start, words::word(table, s + 1), listed)
 }
 
 // The same, its start read from the table.
@@ -274,7 +274,7 @@ pub fn in_order(table: &[u64], listed: usize, s: usize) -> bool
     requires { s + 1 < length table.now }
     ensures { result ≡ in_order table.now listed s }
 {
-    in_order_from(table, listed, s, words::word64(table, s))
+    in_order_from(table, listed, s, words::word(table, s))
 }
 
 // List s of any table whose two starts are in order, the first of them at hand: that part of the table.
@@ -282,7 +282,7 @@ pub fn list_from(table: &[u64], s: usize, start: usize) -> &[u64]
     requires { (s + 1 < length table.now) × InOrder table.now (length table.now) s × (start ≡ get_or table.now s 0) }
     ensures { result.now ≡ list_at table.now s }
 {
-    let end = words::word64(table, s + 1);
+    let end = words::word(table, s + 1);
     &table[start..end]
 }
 
@@ -291,7 +291,7 @@ fn list_at(table: &[u64], s: usize) -> &[u64]
     requires { (s + 1 < length table.now) × InOrder table.now (length table.now) s }
     ensures { result.now ≡ list_at table.now s }
 {
-    list_from(table, s, words::word64(table, s))
+    list_from(table, s, words::word(table, s))
 }
 
 // The readers of a node: its part of the table.

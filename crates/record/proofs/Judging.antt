@@ -17,8 +17,12 @@ use Rattle.record.specs.Record.{judged}
 use Rattle.record.specs.Contents.{Contents, nothing, joined, of_next}
 use Rattle.record.specs.File.{File, sound, refused, summary, ended, read_from, start, theory_file, verdict}
 use Rattle.record.specs.Bounds.{Within}
+use Rattle.record.specs.declared.Stage.TheVariants.{Start}
 use Rattle.record.specs.declared.Cursor.{Cursor}
 use Rattle.record.specs.declared.Summary.{Summary}
+use Rattle.record.proofs.Stages.{no_start}
+use Rattle.base.specs.Raised.{raised}
+use native.Mathlib.Nat.{sub-zero}
 use Rattle.record.proofs.Steps.{next_within, start_within}
 
 -- ---- one turn of the definition
@@ -74,8 +78,18 @@ module _ (file : List ℕ) (c : Cursor) (whole : Result Summary Refusal) (w : Wi
       let left : length file - c.records ≡ suc (length file - next.records) = omega (arith, w.records, (next_within file c next e w).2) in
       rest ∙ rw (left, read_next file c nothing _ next h e) (verdict_same file next (joined nothing (of_next file c)) nothing (length file - next.records))
 
-  pub judge_done : length file ≤ c.at → whole ≡ verdict (ended c nothing)
-  judge_done h = rest ∙ rw (read_end file c nothing (length file - c.records) (omega (arith, w.at)))
+  judge_end : length file ≤ c.at → whole ≡ verdict (ended c nothing)
+  judge_end h = rest ∙ rw (read_end file c nothing (length file - c.records) (omega (arith, w.at)))
+
+  pub judge_empty : length file ≤ c.at → c.stage ≡ Start → Err (BadKind c.records) ≡ whole
+  unfolding verdict ended
+  judge_empty h e = sym (judge_end h ∙ rw e)
+
+  pub judge_sound : length file ≤ c.at → (c.stage ≡ Start → ⊥) → Ok (summary c) ≡ whole
+  unfolding verdict ended
+  judge_sound h e = sym (judge_end h ∙ rw (no_start c.stage e))
+
+pub ruleset judge_turns = (start_within, next_within, judge_stop, judge_go, judge_empty, judge_sound, raised, sub-zero)
 
 -- ---- a sound file
 

@@ -15,10 +15,10 @@ use Rattle.record.specs.Rising.{rising_from, rising}
 use Rattle.record.specs.Layout.{counted, arity, value_count, values_start, record_end}
 use Rattle.record.specs.declared.Mark.{Mark}
 
-pub length-numbers : (file : List ℕ) (at n : ℕ) → length (numbers file at n) ≡ n
+pub length_numbers : (file : List ℕ) (at n : ℕ) → length (numbers file at n) ≡ n
 unfolding numbers
-length-numbers file at zero = refl
-length-numbers file at (suc n) = ap suc (length-numbers file (at + 4) n)
+length_numbers file at zero = refl
+length_numbers file at (suc n) = ap suc (length_numbers file (at + 4) n)
 
 pub numbers_all : (file : List ℕ) (start n : ℕ) → numbers file start n ≡ numbers file (start + 4 * 0) (n - 0)
 numbers_all file start n =
@@ -82,9 +82,14 @@ pub rising_none : (file : List ℕ) (start n : ℕ) → n ≡ 0 → true ≡ ris
 unfolding rising numbers
 rising_none file start n e = rw e
 
-pub rising-first : (file : List ℕ) (start n last : ℕ) → 0 < n → last ≡ number file start → rising (numbers file start n) ≡ rising_from last (numbers file (start + 4 * 1) (n - 1))
+pub rising_first : (file : List ℕ) (start n last : ℕ) → 0 < n → last ≡ number file start → rising (numbers file start n) ≡ rising_from last (numbers file (start + 4 * 1) (n - 1))
 unfolding rising
-rising-first file start n last h e = rw (numbers_first file start n h, e)
+rising_first file start n last h e = rw (numbers_first file start n h, e)
+
+-- those of a loop over the values
+pub ruleset below_turns = (below_stop, below_go, below_done)
+
+pub ruleset rising_turns = (rising_none, rising_first, rising_stop, rising_go, rising_done)
 
 -- ---- where a record ends
 
@@ -118,6 +123,8 @@ module _ (file : List ℕ) (at : ℕ) (mark : Mark) where
   pub fixed_within : record_end file at mark ≤ length file → counted mark ≡ false → at + 2 ≤ length file
   unfolding record_end values_start value_count
   fixed_within h e = omega (arith, rw e at h)
+
+pub ruleset whole_tests = (whole_fixed, whole_cut, whole_counted, lt-leb)
 
 pub one_number : (file : List ℕ) (at n : ℕ) → 1 ≤ n → get_or (numbers file at n) 0 0 ≡ number file at
 unfolding numbers

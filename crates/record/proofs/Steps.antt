@@ -64,6 +64,8 @@ module _ (file : List ℕ) (c : Cursor) where
       unfolding judged_whole unless values_of record_end
       within_limits next r e n q = rw (← at-start, ← so_many, ← counted-so, ← tried, e, ← n) q
 
+pub ruleset record_exits = (mark_cut, marked, disordered, record_cut, record_whole)
+
 -- ---- the values of a record
 
 pub fixed_least : (file : List ℕ) (at : ℕ) (mark : Mark) → arity mark ≤ value_count file at mark
@@ -85,6 +87,8 @@ end_past file at mark = go (counted mark)
     go : (b : Bool) → at + 2 ≤ cond b (at + 6) (at + 2) + 4 * value_count file at mark
     go true = omega arith
     go false = omega arith
+
+pub ruleset whole_exits = (past_limit, within_limits, fixed_least)
 
 -- ---- on to the next record
 

@@ -1,15 +1,15 @@
 // The theory file: a cursor by value goes over it record by record.
 #![tactic(auto)]
 
-ghost use Rattle.std.specs.Prelude.{◌≡◌, true, false, ◌+◌, ◌*◌, ◌<◌, ◌≤◌, length, get_or, leb};
+ghost use Rattle.std.specs.Prelude.{◌≡◌, ◌+◌, ◌*◌, ◌<◌, ◌≤◌, length, leb};
 ghost use Rattle.theory.specs.Admission.{all_below};
 ghost use Rattle.theory.specs.Limits.{Limited};
-ghost use Rattle.record.specs.Mark.{is_mark, node_mark_at, mark_at, in_order};
+ghost use Rattle.record.specs.Mark.{mark_at, in_order};
 ghost use Rattle.record.specs.Number.{number, numbers};
 ghost use Rattle.record.specs.Rising.{rising};
 ghost use Rattle.record.specs.Layout.{counted, arity, value_count, values_start, values_of, record_end};
-ghost use Rattle.record.specs.Passed.{counts_after, more, passed, passed_other};
-ghost use Rattle.record.specs.Record.{unless, judged_group, judged_values, judged_whole, judged};
+ghost use Rattle.record.specs.Passed.{counts_after, passed, passed_other};
+ghost use Rattle.record.specs.Record.{judged_group, judged_values, judged_whole, judged};
 ghost use Rattle.record.specs.File.{theory_file, verdict, start};
 ghost use Rattle.record.specs.Bounds.{Within};
 
@@ -83,6 +83,7 @@ pub fn mark_at(file: &[u8], at: usize) -> Mark
 }
 
 // Four bytes, low byte first.
+#[tactic(auto, unfolding(crate::specs::Number::number))]
 pub fn number(file: &[u8], at: usize) -> usize
     requires { at + 4 ≤ length file.now }
     ensures value { result ≡ number file.now at }
@@ -106,10 +107,7 @@ fn in_order(mark: Mark, stage: Stage) -> bool
 fn counted(mark: Mark) -> bool
     ensures { result ≡ counted mark }
 {
-    match mark {
-        Mark::And | Mark::Or | Mark::Candidate => true,
-        _ => false,
-    }
+    matches!(mark, Mark::And | Mark::Or | Mark::Candidate)
 }
 
 fn arity(mark: Mark) -> usize
@@ -124,6 +122,7 @@ fn arity(mark: Mark) -> usize
 }
 
 // The record at `at` ends within the file.
+#[tactic(auto, using(crate::proofs::Laws::whole_tests))]
 fn is_whole(file: &[u8], at: usize, mark: Mark) -> bool
     requires { at + 2 ≤ length file.now }
     ensures { result ≡ leb (record_end file.now at mark) (length file.now) }
@@ -137,6 +136,7 @@ fn is_whole(file: &[u8], at: usize, mark: Mark) -> bool
 }
 
 // Of a whole record.
+#[tactic(auto, using(crate::proofs::Laws::counted_within, crate::proofs::Laws::fixed_within), unfolding(crate::specs::Layout::values_start, crate::specs::Layout::value_count))]
 pub fn values_of(file: &[u8], at: usize, mark: Mark) -> Values
     requires { record_end file.now at mark ≤ length file.now }
     ensures { (result.start ≡ values_start file.now at mark) × (result.count ≡ value_count file.now at mark) × (result.count < 4294967296) }
@@ -155,6 +155,7 @@ pub fn values_of(file: &[u8], at: usize, mark: Mark) -> Values
 }
 
 // Each of the values is below the bound.
+#[tactic(auto, using(crate::proofs::Laws::below_turns))]
 fn all_below(file: &[u8], v: Values, bound: usize) -> bool
     requires { v.start + 4 * v.count ≤ length file.now }
     ensures { result ≡ all_below bound (numbers file.now v.start v.count) }
@@ -169,6 +170,7 @@ fn all_below(file: &[u8], v: Values, bound: usize) -> bool
 }
 
 // The values are strictly rising.
+#[tactic(auto, using(crate::proofs::Laws::rising_turns))]
 fn is_rising(file: &[u8], v: Values) -> bool
     requires { v.start + 4 * v.count ≤ length file.now }
     ensures { result ≡ rising (numbers file.now v.start v.count) }
@@ -189,6 +191,7 @@ fn is_rising(file: &[u8], v: Values) -> bool
 }
 
 // The counts with what a record adds to them.
+#[tactic(auto, using(crate::proofs::Laws::length_numbers, crate::proofs::Laws::two_numbers))]
 pub fn counts_after(file: &[u8], t: Counts, mark: Mark, v: Values) -> Counts
     requires { (v.start + 4 * v.count ≤ length file.now) × (arity mark ≤ v.count) × (v.count < 4294967296) × Limited t }
     ensures { result ≡ counts_after t mark (numbers file.now v.start v.count) }
@@ -254,6 +257,7 @@ pub fn passed(c: Cursor, mark: Mark, counts: Counts, end: usize) -> Cursor
 }
 
 // And or Or: 6, 5.
+#[tactic(auto, using(crate::proofs::Laws::length_numbers), unfolding(crate::specs::Record::judged_group, crate::specs::Record::unless))]
 fn judge_group(file: &[u8], c: Cursor, v: Values, next: Cursor) -> Result<Cursor, Refusal>
     requires { v.start + 4 * v.count ≤ length file.now }
     ensures { result ≡ judged_group c (numbers file.now v.start v.count) (Ok next) }
@@ -305,6 +309,7 @@ fn judge_values(
 }
 
 // A record that is whole: 3, then by its values.
+#[tactic(auto, using(crate::proofs::Steps::whole_exits), unfolding(crate::specs::Layout::record_end))]
 fn judge_whole(file: &[u8], c: Cursor, mark: Mark) -> Result<Cursor, Refusal>
     requires { Within (length file.now) c × (record_end file.now c.at mark ≤ length file.now) }
     ensures { result ≡ judged_whole c mark (values_of file.now c.at mark) (record_end file.now c.at mark) }
@@ -319,6 +324,7 @@ fn judge_whole(file: &[u8], c: Cursor, mark: Mark) -> Result<Cursor, Refusal>
 }
 
 // The record that begins at the cursor.
+#[tactic(auto, using(crate::proofs::Steps::record_exits))]
 fn judge_record(file: &[u8], c: Cursor) -> Result<Cursor, Refusal>
     requires { Within (length file.now) c }
     ensures { result ≡ judged file.now c }
@@ -357,6 +363,7 @@ pub fn start() -> Cursor
 }
 
 // Whether the file is sound, and what it holds; or why not, and at which record.
+#[tactic(auto, using(crate::proofs::Judging::judge_turns), unfolding(crate::specs::File::theory_file))]
 pub fn judge(file: &[u8]) -> Result<Summary, Refusal>
     ensures { result ≡ verdict (theory_file file.now) }
 {

@@ -137,7 +137,7 @@ pub fn step(
         return Err(Refusal::BadEntry(0));
     }
     // where its readers are listed, read before its truth: the truth takes longer to see
-    let from = words::word64(readers, k);
+    let from = words::word(readers, k);
     let seen = node_truth::node_truth(counts, nodes, operands, kept, k);
     let Some(holds) = seen else {
         return Err(Refusal::BadEntry(k));

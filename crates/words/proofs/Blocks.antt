@@ -4,7 +4,7 @@ use Prim.Native.Nat.{ℕ, ◌+◌, ◌-◌, ◌*◌, ◌%◌, ◌^◌, ◌≤◌
 use native.Mathlib.Omega.{arith}
 use mathlib.Core.Path.{◌≡◌, refl, sym, ◌∙◌}
 use mathlib.Core.Logic.{⊎_elim}
-use mathlib.Core.Bool.{true, false, not}
+use mathlib.Core.Bool.{false, not}
 use mathlib.Core.List.{List}
 use lib.ListN.{length, get_or}
 use lib.Dec.{eqb}
@@ -82,17 +82,9 @@ pub record Gathered (ws : List ℕ) (first q x : ℕ) : Type 0 where
 or-none : (a b : ℕ) → bit_or a b ≡ 0 → (a ≡ 0) × (b ≡ 0)
 or-none a b e = (omega (arith, or_add_and a b, and_le_l a b, and_le_r a b), omega (arith, or_add_and a b, and_le_l a b, and_le_r a b))
 
-pub gathered_none : (ws : List ℕ) (first : ℕ) → Gathered ws first first 0
-gathered_none ws first = record { clear = λ e k a b. absurd (omega arith); zero = λ z. refl }
-
 pub gathered_more : (ws : List ℕ) (first q x : ℕ) → first ≤ q → Gathered ws first q x → Gathered ws first (q + 1) (bit_or x (get_or ws q 0))
 gathered_more ws first q x l g = record {
   clear = λ e k a b.
       ⊎_elim (λ s. rw s (or-none x (get_or ws q 0) e).1) (λ ne. g.clear (or-none x (get_or ws q 0) e).0 k a (omega arith)) (equal_or k q);
   zero = λ z. rw (g.zero (λ k a b. z k a (omega arith)), z q l (omega arith));
 }
-
--- as the code asks it
-pub gathered_all : (ws : List ℕ) (first q x e : ℕ) → q ≡ e → Gathered ws first q x
-    → (eqb x 0 ≡ true → AllZero ws first e) × (AllZero ws first e → eqb x 0 ≡ true)
-gathered_all ws first q x e p g = (λ t. rw p at (g.clear (eqb-true x 0 t)), λ z. eq-eqb x 0 (g.zero (rw p z)))

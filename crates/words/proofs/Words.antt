@@ -9,7 +9,7 @@ use lib.Dec.{eqb}
 use lib.ListN.{length, get_or}
 use lib.Count.{count_trailing_zeros}
 use Rattle.std.specs.Option.{unwrap_or}
-use Rattle.std.proofs.Common.{Option, Some, None, MatchOption, mul-le-mul_left, lt_of_le_of_lt, div-le_self, mul_comm, div-add-mod'}
+use Rattle.std.proofs.Common.{Option, Some, None, MatchOption, mul-le-mul_left, mul-le-mul_right, lt_of_le_of_lt, div-le_self, mul_comm, div-add-mod'}
 use Rattle.words.specs.Bit.{bit}
 use Rattle.words.specs.Block.{AllZero}
 use Rattle.words.specs.Next.{next}
@@ -19,6 +19,13 @@ use Rattle.words.specs.NextLaws.{next_within, next_rest, next_here, next_pass, n
 use Rattle.words.proofs.Blocks.{marked_found, marked_there, marked_next}
 
 module _ {X : Type 0} (w : ℕ) (number : X → ℕ) (numbers : List X → List ℕ) (laws : WordLaws w number numbers) (ws : List X) where
+  some_bits : 0 < w
+  some_bits = omega (arith, laws.least)
+
+  -- the words are far fewer than 2 ^ 64 where their number of bits fits
+  pub few : w * length ws < 2 ^ 64 → 32 * length ws < 2 ^ 64
+  few b = omega (arith, mul-le-mul_right (length ws) laws.least, b)
+
   pub next_stop : (i : ℕ) → w * length ws ≤ i → next w (numbers ws) i ≡ i
   next_stop i h = next-end w (numbers ws) i (rw (laws.as_many ws) h)
 
@@ -33,7 +40,7 @@ module _ {X : Type 0} (w : ℕ) (number : X → ℕ) (numbers : List X → List 
 
   -- a block of 32 words that are 0 is passed over
   pub block_pass : (q : ℕ) → q + 32 ≤ length ws → AllZero (numbers ws) q (q + 32) → next w (numbers ws) (w * q) ≡ next w (numbers ws) (w * (q + 32))
-  block_pass q l z = next-skip w (numbers ws) laws.some q (q + 32) (omega arith) (rw (laws.as_many ws) l) z
+  block_pass q l z = next-skip w (numbers ws) some_bits q (q + 32) (omega arith) (rw (laws.as_many ws) l) z
 
   -- what is found fits where the words' number of bits does
   fits_in : (i : ℕ) → i ≤ w * length ws → w * length ws < 2 ^ 64 → next w (numbers ws) i < 2 ^ 64
@@ -48,12 +55,12 @@ module _ {X : Type 0} (w : ℕ) (number : X → ℕ) (numbers : List X → List 
     there = rw (laws.as_many ws) l
 
     pub pass : r ≡ 0 → next w (numbers ws) (w * q) ≡ next w (numbers ws) (w * (q + 1))
-    pass z = next_pass w (numbers ws) q laws.some there (sym read ∙ z)
+    pass z = next_pass w (numbers ws) q some_bits there (sym read ∙ z)
 
     module _ (fits : r < 2 ^ w) (ne : r ≡ 0 → ⊥) where
       pub hit : next w (numbers ws) (w * q) ≡ w * q + count_trailing_zeros 64 r
       hit =
-          next-hit w (numbers ws) q laws.some there (rw (← read) fits) (λ z. ne (read ∙ z))
+          next-hit w (numbers ws) q some_bits there (rw (← read) fits) (λ z. ne (read ∙ z))
           ∙ ap (λ (t : ℕ). w * q + t) (ap (count_trailing_zeros w) (sym read) ∙ sym (trailing_wider w 64 r (omega arith) fits laws.most))
 
       pub hit_fits : w * length ws < 2 ^ 64 → w * q + count_trailing_zeros 64 r < 2 ^ 64
@@ -65,12 +72,12 @@ module _ {X : Type 0} (w : ℕ) (number : X → ℕ) (numbers : List X → List 
     same = read (i / w) x r is value l
 
     pub after : r / 2 ^ (i % w) ≡ 0 → next w (numbers ws) i ≡ next w (numbers ws) (w * (i / w + 1))
-    after z = next_rest w (numbers ws) i laws.some (rw (laws.as_many ws) l) (rw (← same) z)
+    after z = next_rest w (numbers ws) i some_bits (rw (laws.as_many ws) l) (rw (← same) z)
 
     module _ (fits : r < 2 ^ w) (ne : r / 2 ^ (i % w) ≡ 0 → ⊥) where
       pub here : next w (numbers ws) i ≡ i + count_trailing_zeros 64 (r / 2 ^ (i % w))
       here =
-          next_here w (numbers ws) i laws.some (rw (laws.as_many ws) l) (rw (← same) fits) (rw (← same) ne)
+          next_here w (numbers ws) i some_bits (rw (laws.as_many ws) l) (rw (← same) fits) (rw (← same) ne)
           ∙ ap (λ (t : ℕ). i + t) (rw (← same) (sym (trailing_wider w 64 (r / 2 ^ (i % w)) (omega arith) (omega (arith, div-le_self r (2 ^ (i % w)))) laws.most)))
 
       pub here_fits : i ≤ w * length ws → w * length ws < 2 ^ 64 → i + count_trailing_zeros 64 (r / 2 ^ (i % w)) < 2 ^ 64
@@ -96,7 +103,7 @@ module _ {X : Type 0} (w : ℕ) (number : X → ℕ) (numbers : List X → List 
       ne z = marked_there (numbers ws) q 32 m marks some (sym (read i x r is value block_in) ∙ z)
 
       pub block_hit : next w (numbers ws) (w * q) ≡ w * (q + count_trailing_zeros 32 m) + count_trailing_zeros 64 r
-      block_hit = marked_next (numbers ws) q 32 m marks some w laws.some (rw (laws.as_many ws) l) ∙ hit i x r is value block_in fits ne
+      block_hit = marked_next (numbers ws) q 32 m marks some w some_bits (rw (laws.as_many ws) l) ∙ hit i x r is value block_in fits ne
 
       pub block_fits : w * length ws < 2 ^ 64 → w * (q + count_trailing_zeros 32 m) + count_trailing_zeros 64 r < 2 ^ 64
       block_fits = hit_fits i x r is value block_in fits ne

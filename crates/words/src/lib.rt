@@ -22,7 +22,7 @@ pub fn word<W: Word>(table: &[W], i: usize) -> usize
     table[i].wide() as usize
 }
 
-// The same of a table of 64 bits a word.
+// The same of a table of 64 bits a word, by the one clause that its callers' proofs cite.
 pub fn word64(table: &[u64], i: usize) -> usize
     requires { i < length table.now }
     ensures { result ≡ get_or table.now i 0 }

@@ -38,7 +38,7 @@ pub fn next_word<W: Word>(words: &[W], first: usize) -> usize
     requires words_bound { W.BITS * length words.now < 2 ^ 64 }
     ensures { result ≡ next W.BITS (W.numbers words.now) (W.BITS * first) }
 {
-    let near = first + (words.len() - first).min(8);
+    let near = words.len().min(first + 8);
     if let Some(i) = within(words, first, near) {
         return i;
     }
@@ -79,19 +79,19 @@ fn within<W: Word>(words: &[W], first: usize, end: usize) -> Option<usize>
     None
 }
 
-// Whether the 32 words from `first` on are all 0.
+// Whether the 32 words from `first` on are all 0. Each is read, so that the compiler makes one wide `or` of the loop.
 fn block_empty<W: Word>(words: &[W], first: usize) -> bool
     requires { first + 32 ≤ length words.now }
     ensures { (result ≡ true → AllZero (W.numbers words.now) first (first + 32)) × (AllZero (W.numbers words.now) first (first + 32) → result ≡ true) }
 {
     let mut x = 0;
-    for q in first..first + 32 {
-        x |= words[q].wide();
+    for word in &words[first..first + 32] {
+        x |= word.wide();
     }
     x == 0
 }
 
-// Which of the 32 words from `first` on are not 0.
+// Which of the 32 words from `first` on are not 0, in a loop of 32 rounds for the same reason.
 pub fn nonzeros<W: Word>(words: &[W], first: usize) -> u32
     requires { first + 32 ≤ length words.now }
     ensures { (k : ℕ) → k < 32 → bit result k ≡ not (eqb (get_or (W.numbers words.now) (first + k) 0) 0) }

@@ -1,9 +1,10 @@
 // What words of 32 and of 64 bits have in common.
 ghost use Rattle.std.specs.Prelude.{◌≡◌, ℕ, ◌^◌, ◌<◌, List};
-ghost use Rattle.std.proofs.Common.{lit<, lit≤};
+ghost use Rattle.std.proofs.Common.{lit≤};
 ghost use Rattle.words.specs.WordLaws.{WordLaws, plain};
 
 pub trait Word: Copy {
+    // A word's width.
     ghost BITS: { ℕ };
 
     // The number that a word is, and those that the words of a list are.
@@ -13,6 +14,7 @@ pub trait Word: Copy {
 
     const BITS: usize;
 
+    // The word as a number of 64 bits.
     fn wide(self) -> u64
         ensures value { result ≡ number self }
         ensures fits { result < 2 ^ BITS };
@@ -27,7 +29,7 @@ impl Word for u32 {
 
     ghost numbers = { λ ws. ws };
 
-    ghost laws = { plain 32 (lit< tt) (lit≤ tt) };
+    ghost laws = { plain 32 (lit≤ tt) (lit≤ tt) };
 
     const BITS: usize = 32;
 
@@ -43,7 +45,7 @@ impl Word for u64 {
 
     ghost numbers = { λ ws. ws };
 
-    ghost laws = { plain 64 (lit< tt) (lit≤ tt) };
+    ghost laws = { plain 64 (lit≤ tt) (lit≤ tt) };
 
     const BITS: usize = 64;
 

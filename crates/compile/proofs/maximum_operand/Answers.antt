@@ -17,7 +17,7 @@ pub word-requires : goal.word-requires
 word-requires c = rw c.word-child.ensures.value (c.requires.lower _ c.loop-i.invariant.1 (omega (arith, c.loop-i.invariant.2)))
 
 pub loop-i-preserved : goal.loop-i-preserved
-loop-i-preserved c = (search rules, search rules, search rules, omega (arith, c.greater-value.ensures, c.word.ensures.upper_bound), greatest_more _ _ _ _ _ _ c.loop-i.invariant.4 _ _ _ c.loop-i-test.true (omega (arith, c.loop-i.invariant.2, c.requires.within)) c.word-child.ensures.value c.word.ensures.value c.greater-value.ensures)
+loop-i-preserved c = (search rules, search rules, search rules, omega (arith, c.max-value.ensures, c.word.ensures.upper_bound), greatest_more _ _ _ _ _ _ c.loop-i.invariant.4 _ _ _ c.loop-i-test.true (omega (arith, c.loop-i.invariant.2, c.requires.within)) c.word-child.ensures.value c.word.ensures.value c.max-value.ensures)
 
 pub returns : goal.returns
 returns c = record { value = greatest_done _ _ _ _ _ _ c.loop-i.invariant.4 c.loop-i-test.false; upper_bound = c.loop-i.invariant.3 }

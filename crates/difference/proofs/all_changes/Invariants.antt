@@ -1,11 +1,8 @@
-use Prim.Native.Nat.{◌*◌, ◌-◌, ◌≤◌}
+use Prim.Native.Nat.{◌*◌, ◌≤◌, min}
 use mathlib.Core.Path.{◌≡◌}
 use lib.ListN.{length}
 use Rattle.difference.specs.Found.{Found}
 use Rattle.difference.proofs.all_changes.Given as goal
 
 abbrev pub invariant-loop-j : goal.invariant-loop-j
-invariant-loop-j l = Found l.at l.kept l.candidate (2 * l.j) l.marks l.d × (l.d.first ≤ l.pairs) × (length l.marks ≡ length l.initial.marks) × (l.j ≤ l.pairs)
-
-abbrev pub decreases-loop-j : goal.decreases-loop-j
-decreases-loop-j l = l.pairs - l.j
+invariant-loop-j l = Found l.at l.kept l.candidate (2 * min l.j l.pairs) l.marks l.d × (l.d.first ≤ l.pairs) × (length l.marks ≡ length l.initial.marks)

@@ -1,27 +1,17 @@
 use native.Mathlib.Omega.{arith}
 use Prim.Native.Nat.{◌/◌, ◌<◌}
-use mathlib.Core.Path.{refl, ap, ◌∙◌}
 use lib.ListN.{length}
 use Rattle.base.specs.Each.{each_at}
 use Rattle.record.specs.Number.{numbers}
-use Rattle.record.proofs.Laws.{length-numbers, numbers_at, numbers_all}
-use Rattle.words.specs.SetLaws.{length_inserted}
-use Rattle.file_reader.specs.Insert.{inserted_all}
+use Rattle.record.proofs.Laws.{length_numbers, numbers_at}
 use Rattle.file_reader.proofs.Laws.{insert_more, insert_done}
-use borrow.Author.Rules.{rules}
 use Rattle.file_reader.proofs.insert_all.Goals as goal
 
-pub loop-i-init : goal.loop-i-init
-loop-i-init c = (search rules, refl, ap (inserted_all _) (numbers_all _ _ _))
-
 pub insert-requires : goal.insert-requires
-insert-requires c = rw (c.number.ensures.value, ← (numbers_at c.args.file.now c.args.from c.loop-i.i c.args.count c.loop-i-test.true), c.loop-i.invariant.1) (each_at (λ a. a / 64 < length c.args.words.now) 0 (numbers c.args.file.now c.args.from c.args.count) c.requires.1 c.loop-i.i (omega (arith, length-numbers c.args.file.now c.args.from c.args.count)))
+insert-requires c = rw (c.number.ensures.value, ← (numbers_at c.args.file.now c.args.from c.loop-i.i c.args.count c.loop-i-test.true), c.loop-i.auto.words) (each_at (λ a. a / 64 < length c.args.words.now) 0 (numbers c.args.file.now c.args.from c.args.count) c.requires.1 c.loop-i.i (omega (arith, length_numbers c.args.file.now c.args.from c.args.count)))
 
 pub loop-i-preserved : goal.loop-i-preserved
-loop-i-preserved c = (search rules, ap length c.insert.ensures ∙ length_inserted 64 _ _ ∙ c.loop-i.invariant.1, insert_more _ _ _ _ _ _ c.loop-i.invariant.2 _ _ c.loop-i-test.true c.number.ensures.value c.insert.ensures)
-
-pub shape_of-words : goal.shape_of-words
-shape_of-words c = c.loop-i.invariant.1
+loop-i-preserved c = insert_more _ _ _ _ _ _ c.loop-i.invariant _ _ c.loop-i-test.true c.number.ensures.value c.insert.ensures
 
 pub returns : goal.returns
-returns c = insert_done _ _ _ _ _ _ c.loop-i.invariant.2 c.loop-i-test.false
+returns c = insert_done _ _ _ _ _ _ c.loop-i.invariant c.loop-i-test.false

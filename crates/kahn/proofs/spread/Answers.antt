@@ -18,9 +18,6 @@ overflow_add-n-in-loop-link c = let h = spreading_next _ _ _ _ _ _ _ c.requires.
 pub word-target-requires : goal.word-target-requires
 word-target-requires c = let h = spreading_next _ _ _ _ _ _ _ c.requires.0 _ _ _ c.loop-link.invariant _ c.requires.2.1 c.loop-link-test.true in omega (arith, h)
 
-pub overflow_add-n-in-loop-link-2 : goal.overflow_add-n-in-loop-link-2
-overflow_add-n-in-loop-link-2 c = let h = spreading_next _ _ _ _ _ _ _ c.requires.0 _ _ _ c.loop-link.invariant _ c.requires.2.1 c.loop-link-test.true in omega (arith, h)
-
 pub overflow_add-n-in-loop-link-3 : goal.overflow_add-n-in-loop-link-3
 overflow_add-n-in-loop-link-3 c = let h = spreading_next _ _ _ _ _ _ _ c.requires.0 _ _ _ c.loop-link.invariant _ c.requires.2.1 c.loop-link-test.true in omega (arith, h)
 

@@ -1,9 +1,7 @@
-use Prim.Native.Nat.{◌≤◌}
 use mathlib.Core.Path.{◌≡◌}
-use lib.ListN.{length}
 use lib.Seq.{paste}
 use Rattle.record.specs.Number.{numbers}
 use Rattle.load.proofs.copy.Given as goal
 
 abbrev pub invariant-loop-i : goal.invariant-loop-i
-invariant-loop-i l = (l.i ≤ l.count) × (length l.table ≡ length l.initial.table) × (l.table ≡ paste l.initial.table l.at (numbers l.file l.from l.count) l.i)
+invariant-loop-i l = l.table ≡ paste l.initial.table l.at (numbers l.file l.from l.count) l.i

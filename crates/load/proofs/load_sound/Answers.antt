@@ -16,8 +16,5 @@ returns-then-operands-s c = short_operands _ _ _ c.requires c.if-nodes-s.false c
 pub returns-then-roots-s : goal.returns-then-roots-s
 returns-then-roots-s c = short_roots _ _ _ c.requires c.if-nodes-s.false c.if-operands-s.false c.if-roots-s.true
 
-pub store_all-requires : goal.store_all-requires
-store_all-requires c = rw c.requires (record { nodes_long = c.if-nodes-s.false; operands_long = c.if-operands-s.false; roots_long = c.if-roots-s.false })
-
 pub returns : goal.returns
 returns c = all_stored _ _ _ c.requires c.if-nodes-s.false c.if-operands-s.false _ c.if-roots-s.false c.store_all.ensures

@@ -10,7 +10,7 @@ use Rattle.load.specs.Room.{Fits}
 use Rattle.load.proofs.store_all.Given as goal
 
 abbrev pub invariant-loop-c : goal.invariant-loop-c
-invariant-loop-c l = Within (length l.file) l.c × Fits (verdict (read_from l.file l.c nothing (length l.file - l.c.records))) (length l.initial.nodes) (length l.initial.operands) (length l.initial.roots) × (length l.nodes ≡ length l.initial.nodes) × (length l.operands ≡ length l.initial.operands) × (length l.roots ≡ length l.initial.roots) × (stored_from l.file start (tables l.initial.nodes l.initial.operands l.initial.roots) (length l.file) ≡ stored_from l.file l.c (tables l.nodes l.operands l.roots) (length l.file - l.c.records))
+invariant-loop-c l = Within (length l.file) l.c × Fits (verdict (read_from l.file l.c nothing (length l.file - l.c.records))) (length l.initial.nodes) (length l.initial.operands) (length l.initial.roots) × (stored_from l.file start (tables l.initial.nodes l.initial.operands l.initial.roots) (length l.file) ≡ stored_from l.file l.c (tables l.nodes l.operands l.roots) (length l.file - l.c.records))
 
 abbrev pub decreases-loop-c : goal.decreases-loop-c
 decreases-loop-c l = length l.file - l.c.at

@@ -1,9 +1,6 @@
 use native.Mathlib.Omega.{arith}
-use Rattle.words.proofs.Rest.{rest_all, rest_none, rest_less, rest_first}
+use Rattle.words.proofs.Rest.{rest_none, rest_less, rest_first}
 use Rattle.words.proofs.bits.Goals as goal
-
-pub loop-init : goal.loop-init
-loop-init c = rest_all 64 _ _ c.ranges.word.fits
 
 pub returns-then-x-eq0 : goal.returns-then-x-eq0
 returns-then-x-eq0 c = rest_none 64 _ _ _ _ c.loop.invariant c.if-x-eq0.true

@@ -3,4 +3,4 @@ use Rattle.readers.proofs.PlacingPass.enter.Goals as goal
 
 pub returns : goal.returns
 unfolding placed
-returns c = rw c.word64-at.ensures
+returns c = rw c.word-at.ensures.value

@@ -1,13 +1,16 @@
 use native.Mathlib.Omega.{arith}
-use Rattle.words.proofs.Blocks.{gathered_none, gathered_more, gathered_all}
+use mathlib.Core.Path.{◌≡◌, ◌∙◌}
+use Prim.Native.Nat.{◌+◌, ◌-◌, ◌<◌}
+use lib.ListN.{drop}
+use Rattle.std.proofs.lemmas.List.{length-take}
+use Rattle.std.proofs.lemmas.Simd.{get_or-chunk}
+use Rattle.words.proofs.Blocks.{gathered_more}
 use Rattle.words.proofs.Words.{read}
 use Rattle.words.proofs.set.block_empty.Goals as goal
 
-pub loop-q-init : goal.loop-q-init
-loop-q-init g c = gathered_none _ _
-
-pub loop-q-preserved : goal.loop-q-preserved
-loop-q-preserved g c = rw (read _ _ _ g.met.W.Word.laws _ c.loop-q.q _ _ c.index-words-q.is c.wide-x.ensures.value (omega arith)) (gathered_more _ _ _ _ (omega arith) c.loop-q.invariant)
-
-pub returns : goal.returns
-returns g c = gathered_all _ _ c.loop-q.q _ _ (omega arith) c.loop-q.invariant
+pub loop-word-preserved : goal.loop-word-preserved
+loop-word-preserved g c =
+    let q = c.args.first + c.loop-word.word-index in
+    let e : c.args.first + (c.loop-word.word-index + 1) ≡ q + 1 = omega arith in
+    let l : c.loop-word.word-index < c.args.first + 32 - c.args.first = omega (arith, c.loop-word-test.true, length-take (c.args.first + 32 - c.args.first) (drop c.args.first c.args.words.now)) in
+    rw (e, read _ _ _ g.met.W.Word.laws _ q _ _ (c.word-item.is ∙ get_or-chunk _ _ c.args.words.now _ _ l) c.wide-x.ensures.value (omega (arith, l))) (gathered_more _ _ _ _ (omega arith) c.loop-word.invariant)

@@ -16,6 +16,3 @@ loop-k-preserved g c =
       | then-wide-ne0 w ↦ rw w.x-is (marked_yes _ _ _ _ c.loop-k.invariant 32 c.loop-k-test.true (λ z. w.if-wide-ne0.true (is ∙ z)))
       | else-wide-ne0 w ↦ rw w.x-is (marked_no _ _ _ _ c.loop-k.invariant (sym is ∙ w.if-wide-ne0.false))
     ]
-
-pub returns : goal.returns
-returns g c = λ k h. c.loop-k.invariant.below k (omega arith)
