@@ -10,10 +10,11 @@ use theory::Refusal;
 
 // Tells on standard error what failed, and why.
 fn fail(rt: &impl Eprint, what: &str, why: &io::Error) {
-    let _ = eprintln!(rt; "{what}: {why}");
+    let _ = eprintln!(rt; "tightcheck: {what}: {why}");
 }
 
 // Reads until `file` is full or the input ends, and answers how many bytes it read.
+// Of std's calls, read_exact does not say how many, and read_to_end fills a Vec.
 pub fn read_full<R: Read>(input: &mut R, file: &mut [u8]) -> io::Result<usize>
     ensures { IfOk result (λ n. n ≤ length file.new) }
 {
@@ -29,15 +30,16 @@ pub fn read_full<R: Read>(input: &mut R, file: &mut [u8]) -> io::Result<usize>
 }
 
 // What is printed of the file, at the front of the output; answers its length.
-fn printed(file: &[u8], out: &mut [u8]) -> usize
-    requires { length out.old ≡ 65536 }
+fn printed(file: &[u8], out: &mut [u8; 65536]) -> usize
     ensures { (result ≤ 65536) × (take result out.new ≡ printed_of file.now) }
 {
+    // 0 where the text is longer than the output
     let n = run::run(file, out);
     if n == 0 {
-        return text::refused_line(out, 0, Refusal::ShortBuffer(9));
+        text::refused_line(out, 0, Refusal::ShortBuffer(9))
+    } else {
+        n
     }
-    n
 }
 
 // Prints what the program says of the file; a failed write is told on standard error.
@@ -45,7 +47,7 @@ fn print<W: Write>(rt: &impl Eprint, file: &[u8], output: &mut W) {
     let mut out = [0u8; 65536];
     let n = printed(file, &mut out);
     if let Err(e) = output.write_all(&out[..n]) {
-        fail(rt, "tightcheck: writing the text", &e);
+        fail(rt, "writing the text", &e);
     }
 }
 
@@ -56,6 +58,6 @@ pub fn answer<R: Read, W: Write>(rt: &impl Eprint, input: &mut R, output: &mut W
     let mut file = [0u8; 65537];
     match read_full(input, &mut file) {
         Ok(n) => print(rt, &file[..n], output),
-        Err(e) => fail(rt, "tightcheck: reading the theory file", &e),
+        Err(e) => fail(rt, "reading the theory file", &e),
     }
 }

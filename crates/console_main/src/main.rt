@@ -29,7 +29,7 @@ fn open(rt: &HostRuntime, name: &str) -> Opened {
 }
 
 fn show(rt: &HostRuntime, name: &str) -> io::Result<()> {
-    print!(rt; "== {name}\n")?;
+    println!(rt; "== {name}")?;
     let mut input = open(rt, name);
     console::answer(rt, &mut input, &mut io::writer(rt));
     Ok(())
@@ -43,5 +43,5 @@ fn main(rt: HostRuntime) -> io::Result<()> {
     // a directory, and a file that is not there
     show(&rt, ".")?;
     show(&rt, "missing")?;
-    print!(rt; "== end\n")
+    println!(rt; "== end")
 }

@@ -119,13 +119,13 @@ fn slips(rt: &impl Print) -> io::Result<()> {
 }
 
 // Fills a file: TH 7 0 and one NF, and behind them one record over and over.
-fn fill(file: &mut [u8], record: &[u8])
-    requires { (12 ≤ length file.old) × (0 < length record.now) }
+fn fill(file: &mut [u8], entry: &[u8])
+    requires { (12 ≤ length file.old) × (0 < length entry.now) }
 {
     let (head, rest) = file.split_at_mut(12);
     head.copy_from_slice(b"TH\x07\x00\x00\x00\x00\x00\x00\x00NF");
-    for part in rest.chunks_exact_mut(record.len()) {
-        part.copy_from_slice(record);
+    for part in rest.chunks_exact_mut(entry.len()) {
+        part.copy_from_slice(entry);
     }
 }
 
