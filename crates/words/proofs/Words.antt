@@ -2,7 +2,7 @@
 -- Assumes nothing.
 use Prim.Native.Nat.{ℕ, ◌+◌, ◌*◌, ◌/◌, ◌%◌, ◌^◌, ◌≤◌, ◌<◌}
 use native.Mathlib.Omega.{arith}
-use mathlib.Core.Path.{◌≡◌, sym, ap, ◌∙◌}
+use mathlib.Core.Path.{◌≡◌, refl, sym, ap, ◌∙◌}
 use mathlib.Core.Bool.{Bool, true, false, not, false≢true}
 use mathlib.Core.List.{List}
 use lib.Dec.{eqb}
@@ -66,21 +66,25 @@ module _ {X : Type 0} (w : ℕ) (number : X → ℕ) (numbers : List X → List 
       pub hit_fits : w * length ws < 2 ^ 64 → w * q + count_trailing_zeros 64 r < 2 ^ 64
       hit_fits b = rw (← hit) (fits_in (w * q) (mul-le-mul_left w (omega arith)) b)
 
-  -- r is the word of i
-  module _ (i : ℕ) (x : X) (r : ℕ) (is : x ≡ get_or ws (i / w) x) (value : r ≡ number x) (l : i / w < length ws) where
-    same : r ≡ get_or (numbers ws) (i / w) 0
-    same = read (i / w) x r is value l
+  -- r is the word of i from i on
+  module _ (i : ℕ) (x : X) (r : ℕ) (is : x ≡ get_or ws (i / w) x) (value : r ≡ number x / 2 ^ (i % w)) (l : i / w < length ws) where
+    same : number x ≡ get_or (numbers ws) (i / w) 0
+    same = read (i / w) x (number x) is refl l
 
-    pub after : r / 2 ^ (i % w) ≡ 0 → next w (numbers ws) i ≡ next w (numbers ws) (w * (i / w + 1))
-    after z = next_rest w (numbers ws) i some_bits (rw (laws.as_many ws) l) (rw (← same) z)
+    shifted : r ≡ get_or (numbers ws) (i / w) 0 / 2 ^ (i % w)
+    shifted = rw (← same) value
 
-    module _ (fits : r < 2 ^ w) (ne : r / 2 ^ (i % w) ≡ 0 → ⊥) where
-      pub here : next w (numbers ws) i ≡ i + count_trailing_zeros 64 (r / 2 ^ (i % w))
+    pub after : r ≡ 0 → next w (numbers ws) i ≡ next w (numbers ws) (w * (i / w + 1))
+    after z = next_rest w (numbers ws) i some_bits (rw (laws.as_many ws) l) (sym shifted ∙ z)
+
+    module _ (fits : number x < 2 ^ w) (ne : r ≡ 0 → ⊥) where
+      pub here : next w (numbers ws) i ≡ i + count_trailing_zeros 64 r
       here =
-          next_here w (numbers ws) i some_bits (rw (laws.as_many ws) l) (rw (← same) fits) (rw (← same) ne)
-          ∙ ap (λ (t : ℕ). i + t) (rw (← same) (sym (trailing_wider w 64 (r / 2 ^ (i % w)) (omega arith) (omega (arith, div-le_self r (2 ^ (i % w)))) laws.most)))
+          next_here w (numbers ws) i some_bits (rw (laws.as_many ws) l) (rw (← same) fits) (λ z. ne (shifted ∙ z))
+          ∙ ap (λ (t : ℕ). i + t)
+          (ap (count_trailing_zeros w) (sym shifted) ∙ sym (trailing_wider w 64 r (omega arith) (omega (arith, value, div-le_self (number x) (2 ^ (i % w)))) laws.most))
 
-      pub here_fits : i ≤ w * length ws → w * length ws < 2 ^ 64 → i + count_trailing_zeros 64 (r / 2 ^ (i % w)) < 2 ^ 64
+      pub here_fits : i ≤ w * length ws → w * length ws < 2 ^ 64 → i + count_trailing_zeros 64 r < 2 ^ 64
       here_fits h b = rw (← here) (fits_in i h b)
 
   -- the block of 32 words from word q on is not all 0, and the digits of m tell which words of it are not

@@ -24,7 +24,7 @@ pub fn next<W: Word>(words: &[W], from: usize) -> usize
     if words.len() <= q {
         return from;
     }
-    let rest = words[q].wide() >> (from % W::BITS);
+    let rest = words[q].rest(from % W::BITS);
     if rest == 0 {
         return next_word(words, q + 1);
     }
@@ -32,7 +32,8 @@ pub fn next<W: Word>(words: &[W], from: usize) -> usize
 }
 
 // The same from the start of word `first` on. What stands near is found word by word, by loads as wide as the stores just made there;
-// what stands farther, block by block.
+// what stands farther, block by block. A function of its own, so that `next` is short enough to be laid into its callers.
+#[inline(never)]
 pub fn next_word<W: Word>(words: &[W], first: usize) -> usize
     requires first_in_bounds { first ≤ length words.now }
     requires words_bound { W.BITS * length words.now < 2 ^ 64 }
@@ -45,8 +46,7 @@ pub fn next_word<W: Word>(words: &[W], first: usize) -> usize
     next_far(words, near)
 }
 
-// The same, whole blocks of 32 words first. Not inlined, so that the search of what stands near stays short.
-#[inline(never)]
+// The same, whole blocks of 32 words first.
 fn next_far<W: Word>(words: &[W], first: usize) -> usize
     requires first_in_bounds { first ≤ length words.now }
     requires words_bound { W.BITS * length words.now < 2 ^ 64 }

@@ -1,5 +1,5 @@
 // What words of 32 and of 64 bits have in common.
-ghost use Rattle.std.specs.Prelude.{◌≡◌, ℕ, ◌^◌, ◌<◌, List};
+ghost use Rattle.std.specs.Prelude.{◌≡◌, ℕ, ◌/◌, ◌^◌, ◌<◌, List};
 ghost use Rattle.std.proofs.Common.{lit≤};
 ghost use Rattle.words.specs.WordLaws.{WordLaws, plain};
 
@@ -19,6 +19,12 @@ pub trait Word: Copy {
         ensures value { result ≡ number self }
         ensures fits { result < 2 ^ BITS };
 
+    // The word without its k lowest digits, by a shift as wide as the word.
+    fn rest(self, k: usize) -> u64
+        requires { k < BITS }
+        ensures value { result ≡ number self / 2 ^ k }
+        ensures fits { number self < 2 ^ BITS };
+
     ghost laws: { WordLaws BITS number numbers };
 }
 
@@ -36,6 +42,10 @@ impl Word for u32 {
     fn wide(self) -> u64 {
         self as u64
     }
+
+    fn rest(self, k: usize) -> u64 {
+        (self >> k) as u64
+    }
 }
 
 impl Word for u64 {
@@ -51,5 +61,9 @@ impl Word for u64 {
 
     fn wide(self) -> u64 {
         self
+    }
+
+    fn rest(self, k: usize) -> u64 {
+        self >> k
     }
 }

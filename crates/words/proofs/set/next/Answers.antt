@@ -8,10 +8,10 @@ returns-then-words-q g c = sym (next_past _ _ _ g.met.W.Word.laws c.args.words.n
 
 pub returns-then-rest-eq0 : goal.returns-then-rest-eq0
 returns-then-rest-eq0 g c =
-    c.next_word.ensures ∙ rw c.BITS.ensures (sym (after _ _ _ g.met.W.Word.laws c.args.words.now c.args.from _ _ (rw c.BITS.ensures at c.index-words-q.is) c.wide.ensures.value (rw c.BITS.ensures at c.if-words-q.false) (rw c.BITS-2.ensures at c.if-rest-eq0.true)))
+    c.next_word.ensures ∙ rw c.BITS.ensures (sym (after _ _ _ g.met.W.Word.laws c.args.words.now c.args.from _ _ (rw c.BITS.ensures at c.index-words-q.is) (rw c.BITS-2.ensures at c.rest-rest.ensures.value) (rw c.BITS.ensures at c.if-words-q.false) c.if-rest-eq0.true))
 
 pub overflow_add-result : goal.overflow_add-result
-overflow_add-result g c = rw c.BITS-2.ensures (omega (arith, here_fits _ _ _ g.met.W.Word.laws c.args.words.now c.args.from _ _ (rw c.BITS.ensures at c.index-words-q.is) c.wide.ensures.value (rw c.BITS.ensures at c.if-words-q.false) c.wide.ensures.fits (rw c.BITS-2.ensures at c.if-rest-eq0.false) c.requires.from_bound c.requires.words_bound))
+overflow_add-result g c = omega (arith, here_fits _ _ _ g.met.W.Word.laws c.args.words.now c.args.from _ _ (rw c.BITS.ensures at c.index-words-q.is) (rw c.BITS-2.ensures at c.rest-rest.ensures.value) (rw c.BITS.ensures at c.if-words-q.false) c.rest-rest.ensures.fits c.if-rest-eq0.false c.requires.from_bound c.requires.words_bound)
 
 pub returns : goal.returns
-returns g c = rw c.BITS-2.ensures (sym (here _ _ _ g.met.W.Word.laws c.args.words.now c.args.from _ _ (rw c.BITS.ensures at c.index-words-q.is) c.wide.ensures.value (rw c.BITS.ensures at c.if-words-q.false) c.wide.ensures.fits (rw c.BITS-2.ensures at c.if-rest-eq0.false)))
+returns g c = sym (here _ _ _ g.met.W.Word.laws c.args.words.now c.args.from _ _ (rw c.BITS.ensures at c.index-words-q.is) (rw c.BITS-2.ensures at c.rest-rest.ensures.value) (rw c.BITS.ensures at c.if-words-q.false) c.rest-rest.ensures.fits c.if-rest-eq0.false)
