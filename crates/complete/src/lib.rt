@@ -221,7 +221,7 @@ fn lacking(counts: Counts, kept: &[u32], q: usize) -> u32
     if x == 0 {
         return 0;
     }
-    let supported = words::set32::nonzeros(kept, support + 32 * q);
+    let supported = words::set::nonzeros(kept, support + 32 * q);
     (x | supported) ^ supported
 }
 

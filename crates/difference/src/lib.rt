@@ -45,8 +45,8 @@ fn pair_changes(candidate: &[u64], kept: &[u32], at: usize, j: usize, marks: &mu
     ensures result_value { word_changes at kept.now candidate.now (2 * j) + result ≡ word_changes at kept.now candidate.now (2 * (j + 1)) }
     ensures upto { Upto at kept.now candidate.now (2 * j) marks.old → Upto at kept.now candidate.now (2 * (j + 1)) marks.new }
 {
-    words::set64::insert(marks, j);
-    words::set64::changed(pair(kept, at + 2 * j), candidate[j]) as usize
+    words::set::insert(marks, j);
+    words::set::changed(pair(kept, at + 2 * j), candidate[j]) as usize
 }
 
 // d, what is found of the pairs before pair j, with pair j added, which is marked if it differs.
@@ -180,8 +180,8 @@ fn last_change(
     if old == new {
         return d;
     }
-    words::set64::insert(marks, pairs);
-    let changes = d.changes + (words::set32::changed(old, new) as usize);
+    words::set::insert(marks, pairs);
+    let changes = d.changes + (words::set::changed(old, new) as usize);
     Differing {
         changes,
         first: d.first,

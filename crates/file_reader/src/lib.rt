@@ -21,7 +21,7 @@ fn insert_all(file: &[u8], from: usize, count: usize, words: &mut [u64])
     ensures { words.new ≡ inserted_all words.old (numbers file.now from count) }
 {
     for i in 0..count {
-        words::set64::insert(words, record::number(file, from + 4 * i));
+        words::set::insert(words, record::number(file, from + 4 * i));
     }
 }
 

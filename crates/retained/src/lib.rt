@@ -145,7 +145,7 @@ fn next_group(counts: Counts, kept: &[u32], q: usize) -> usize
 {
     let at = kept_laws::groups_at(counts);
     let end = at + (counts.nodes + 31) / 32;
-    words::set32::next(&kept[at..end], q)
+    words::set::next(&kept[at..end], q)
 }
 
 // A word that has become 0, q, leaves its group.

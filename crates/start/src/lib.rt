@@ -132,7 +132,7 @@ pub fn start(
         if j + 1 == end {
             return Ok(());
         }
-        j = words::set64::next(marks, j + 1);
+        j = words::set::next(marks, j + 1);
     }
     Ok(())
 }

@@ -64,7 +64,7 @@ fn stray_bit(counts: Counts, candidate: &[u64]) -> Result<(), Refusal>
         return Ok(());
     }
     let n = (counts.atoms + 63) / 64;
-    let i = words::set64::next(&candidate[..n], counts.atoms);
+    let i = words::set::next(&candidate[..n], counts.atoms);
     if i < 64 * n {
         return Err(Refusal::StrayBit(i));
     }

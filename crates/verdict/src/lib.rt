@@ -26,7 +26,7 @@ fn lowest(words: &[u32], n: usize) -> Result<Option<usize>, OutOfRange>
     requires { length words.now ≤ 8192 }
     ensures { (size : ℕ) → (size ≡ 0 → ⊥) → lookup_of result ≡ lookup n 0 (record { members = words.now; size = size }) }
 {
-    let i = words::set32::next_word(words, 0);
+    let i = words::set::next_word(words, 0);
     if i < n { Ok(Some(i)) } else { Err(OutOfRange) }
 }
 

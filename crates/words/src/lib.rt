@@ -1,14 +1,12 @@
 // Words lent in slices: read as numbers, and as sets of bits.
 #![tactic(auto)]
 
-ghost use Rattle.std.specs.Prelude.{◌≡◌, ◌*◌, ◌^◌, ◌<◌, max, min, length, get_or, replicate};
+ghost use Rattle.std.specs.Prelude.{◌≡◌, ◌*◌, ◌^◌, ◌<◌, length, get_or};
 ghost use Rattle.base.specs.Places.{places};
 ghost use Rattle.words.specs.Bit.{bit};
 ghost use Rattle.words.specs.Halves.{half};
 
 pub mod set;
-pub mod set32;
-pub mod set64;
 pub mod width;
 
 use width::Word;
@@ -22,41 +20,12 @@ pub fn word<W: Word>(table: &[W], i: usize) -> usize
     table[i].wide() as usize
 }
 
-// The same of a table of 64 bits a word, by the one clause that its callers' proofs cite.
-pub fn word64(table: &[u64], i: usize) -> usize
-    requires { i < length table.now }
-    ensures { result ≡ get_or table.now i 0 }
-{
-    word(table, i)
-}
-
 // Word i of a list of u64 words taken as u32 words.
 pub fn half_word(table: &[u64], i: usize) -> u32
     requires { i < 2 * length table.now }
     ensures { result ≡ half table.now i }
 {
     ((table[i / 2] >> (i % 2 * 32)) % 0x1_0000_0000) as u32
-}
-
-// All words become 0.
-pub fn clear(table: &mut [u32])
-    ensures { table.new ≡ replicate (length table.old) 0 }
-{
-    table.fill(0);
-}
-
-// The greater of two numbers.
-pub fn greater(a: usize, b: usize) -> usize
-    ensures { result ≡ max a b }
-{
-    a.max(b)
-}
-
-// The smaller of two numbers.
-pub fn smaller(a: usize, b: usize) -> usize
-    ensures { result ≡ min a b }
-{
-    a.min(b)
 }
 
 // The word's set place number i, rising from i = 0, or 64 if there are not so many.

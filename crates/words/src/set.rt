@@ -1,11 +1,21 @@
 // Sets of numbers in words of one width.
-ghost use Rattle.std.specs.Prelude.{◌≡◌, true, not, ℕ, ◌+◌, ◌*◌, ◌^◌, ◌<◌, ◌≤◌, length, get_or, eqb, MatchOption};
+ghost use Rattle.std.specs.Prelude.{◌≡◌, true, not, ℕ, ◌+◌, ◌*◌, ◌/◌, ◌^◌, ◌<◌, ◌≤◌, length, get_or, eqb, MatchOption};
 ghost use Rattle.words.specs.Bit.{bit};
+ghost use Rattle.words.specs.Sets.{inserted};
 ghost use Rattle.words.specs.Changed.{changed};
 ghost use Rattle.words.specs.Next.{next};
 ghost use Rattle.words.specs.Block.{AllZero};
 
 use crate::width::Word;
+
+// i becomes a member.
+pub fn insert(words: &mut [u64], i: usize)
+    requires { i / 64 < length words.old }
+    ensures { words.new ≡ inserted 64 words.old i }
+{
+    let q = i / 64;
+    words[q] = words[q] | (1u64 << (i % 64));
+}
 
 // At how many places the words differ.
 pub fn changed<W: Word>(old: W, new: W) -> u32
