@@ -86,10 +86,12 @@ fn lay(kept: &mut [u32], k: usize, seen: Option<bool>) -> Result<(), OutOfRange>
     requires { 8 + k < length kept.old }
     ensures { Stored kept.old k (seen) result kept.new }
 {
-    let Some(holds) = seen else {
-        return Err(OutOfRange);
-    };
-    kept[8 + k] = u32::from(holds);
+    // a store of each truth, so that a truth that is foreseen need not be waited for
+    match seen {
+        Some(true) => kept[8 + k] = 1,
+        Some(false) => kept[8 + k] = 0,
+        None => return Err(OutOfRange),
+    }
     Ok(())
 }
 

@@ -211,7 +211,7 @@ pub fn implies_truth(kept: &[u32], k: usize, left: usize, right: usize) -> Optio
     // both are read, so that no branch goes by a truth
     let l = holds(kept, left);
     let r = holds(kept, right);
-    Some(!l | r)
+    Some(!l || r)
 }
 
 // Node k.
