@@ -248,7 +248,7 @@ fn next_single(counts: Counts, kept: &[u32], from: usize) -> usize
     counts.atoms
 }
 
-// The same, 32 atoms at a time.
+// The same, 32 atoms at a time: from anywhere within a word to the start of the next, so no range of places is gone over.
 fn next_lacking(counts: Counts, kept: &[u32], from: usize) -> usize
     requires { Limited counts × (from ≤ counts.atoms) × (used_by counts ≤ length kept.now) }
     ensures { result ≡ next_lacking counts kept.now from }
@@ -264,7 +264,7 @@ fn next_lacking(counts: Counts, kept: &[u32], from: usize) -> usize
     next_single(counts, kept, a)
 }
 
-// The missing atoms, where there was none.
+// The missing atoms, where there was none: from one to the next, so no range of places is gone over.
 fn lay_missing(counts: Counts, kept: &mut [u32])
     requires { Limited counts × (used_by counts ≤ length kept.old) × NoMissing counts kept.old }
     ensures { (T : Tables) → kept.new ≡ written (sized counts T) kept.old (missing_laid (sized counts T) (of_words (sized counts T) kept.old)) }

@@ -117,7 +117,7 @@ fn next_cursor(file: &[u8], c: Cursor, mark: Mark, v: Values) -> Cursor
     record::passed(c, mark, counts, v.start + 4 * v.count)
 }
 
-// Every record of a sound file, into tables that are long enough.
+// Every record of a sound file, into tables that are long enough. Each record says where the next one begins, so no range of places is gone over.
 fn store_all(file: &[u8], nodes: &mut [u32], operands: &mut [u32], roots: &mut [u32])
     requires { Fits (verdict (theory_file file.now)) (length nodes.old) (length operands.old) (length roots.old) }
     ensures { tables nodes.new operands.new roots.new ≡ stored_from file.now start (tables nodes.old operands.old roots.old) (length file.now) }

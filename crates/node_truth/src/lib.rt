@@ -96,7 +96,7 @@ fn undecided(operands: &[u32], kept: &[u32], k: usize, first: usize, decisive: b
     block_are(operands, kept, first, !decisive)
 }
 
-// The first operand that is not passed by blocks in which none decides.
+// The first operand that is not passed by blocks in which none decides: the place where the loop ends is the answer, which a `for` would not hand out.
 fn skip_blocks(
     operands: &[u32],
     kept: &[u32],

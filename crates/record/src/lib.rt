@@ -362,7 +362,7 @@ pub fn start() -> Cursor
     }
 }
 
-// Whether the file is sound, and what it holds; or why not, and at which record.
+// Whether the file is sound, and what it holds; or why not, and at which record. Each record says where the next one begins, so no range of places is gone over.
 #[tactic(auto, using(crate::proofs::Judging::judge_turns), unfolding(crate::specs::File::theory_file))]
 pub fn judge(file: &[u8]) -> Result<Summary, Refusal>
     ensures { result ≡ verdict (theory_file file.now) }

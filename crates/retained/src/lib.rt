@@ -286,7 +286,7 @@ fn relieved(counts: Counts, kept: &mut [u32], a: usize, before: usize) -> Result
     missing(counts, kept, a, false)
 }
 
-// One producer more of atom a has a true body.
+// One producer more of atom a has a true body. `lose` is its converse: bounds, sign and what is missing then all differ, so one function of both would be a branch at each line.
 fn gain(counts: Counts, made: usize, kept: &mut [u32], a: usize) -> Result<(), OutOfRange>
     requires { Limited counts × (made ≤ counts.roots) × (a < counts.atoms) × (used_by counts ≤ length kept.old) }
     ensures { (T : Tables) → Wrote (supplied counts made T) kept.old (support_moved (supplied counts made T) true a (of_words (supplied counts made T) kept.old)) result kept.new }

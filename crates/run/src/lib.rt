@@ -188,7 +188,7 @@ fn lines(file: &[u8], out: &mut [u8]) -> usize
     }
 }
 
-// The text of the file at the front of the output, and its length; 0 and the output unaltered if it does not fit.
+// The text of the file at the front of the output, and its length; 0 and the output unaltered if it does not fit: a number, since the C function `tight_run` answers the same.
 pub fn run(file: &[u8], out: &mut [u8]) -> usize
     ensures { running result out.new ≡ run_of file.now out.old }
 {

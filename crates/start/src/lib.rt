@@ -100,6 +100,7 @@ fn turn_pair(
 {
     let mut x = old_pair(counts, kept, j) ^ new;
     lay_pair(counts, kept, j, new);
+    // each turn takes the lowest place off x, until none is left
     loop {
         let k = words::bits(x, 0);
         if k == 64 {
@@ -126,6 +127,7 @@ pub fn start(
     requires between { Between counts kept.old candidate.now first end }
     ensures { (T : Tables) → Wrote (listed counts readers.now T) kept.old (walk_start (listed counts readers.now T) (member 64 candidate.now) counts.atoms (of_words (listed counts readers.now T) kept.old)) result kept.new }
 {
+    // from one marked pair to the next
     let mut j = first;
     while j < end {
         turn_pair(counts, readers, kept, j, candidate[j])?;

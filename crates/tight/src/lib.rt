@@ -40,7 +40,7 @@ pub extern "C" fn tight_plan(
     ))
 }
 
-// The same with proposed ranks.
+// The same with proposed ranks: a C function of its own, so its parameters stand again.
 #[unsafe(no_mangle)]
 pub extern "C" fn tight_certify(
     stamp: u32,

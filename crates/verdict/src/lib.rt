@@ -30,6 +30,7 @@ fn lowest(words: &[u32], n: usize) -> Result<Option<usize>, OutOfRange>
     if i < n { Ok(Some(i)) } else { Err(OutOfRange) }
 }
 
+// The two sets differ in their places, their counts and their bounds alone; what is said of each names its field of the evaluation, so one function of both would say less.
 fn first_false(counts: Counts, kept: &[u32]) -> Result<Option<usize>, OutOfRange>
     requires { Limited counts × (used_by counts ≤ length kept.now) }
     ensures { (T : Tables) → lookup_of result ≡ lookup counts.roots 0 (of_words (sized counts T) kept.now).false_roots }

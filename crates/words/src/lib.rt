@@ -28,7 +28,7 @@ pub fn half_word(table: &[u64], i: usize) -> u32
     ((table[i / 2] >> (i % 2 * 32)) % 0x1_0000_0000) as u32
 }
 
-// The word's set place number i, rising from i = 0, or 64 if there are not so many.
+// The word's set place number i, rising from i = 0, or 64 if there are not so many: a number, as its clause and its readers have it, and one comparison tells.
 pub fn bits(word: u64, i: usize) -> u32
     ensures { result ≡ get_or (places (bit word) 0 64) i 64 }
 {

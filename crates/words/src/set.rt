@@ -24,7 +24,7 @@ pub fn changed<W: Word>(old: W, new: W) -> u32
     (old.wide() ^ new.wide()).count_ones()
 }
 
-// The lowest member from `from` on, or the words' width times their number if there is none.
+// The lowest member from `from` on, or the words' width times their number if there is none: a number, as the definition `next` has it, since callers compare it with a bound of their own.
 pub fn next<W: Word>(words: &[W], from: usize) -> usize
     requires from_bound { from ≤ W.BITS * length words.now }
     requires words_bound { W.BITS * length words.now < 2 ^ 64 }
