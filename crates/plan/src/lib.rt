@@ -111,8 +111,9 @@ fn judge(
         Some(given) => ranks::rank_check(counts, nodes, operands, roots, given, area, n),
         None => {
             let v = counts.atoms + n;
-            dependency::derive_ranks(counts, nodes, operands, roots, area, v)
-                .map_err(|cycle| Refusal::PositiveCycle(cycle.atom))
+            dependency::derive_ranks(counts, nodes, operands, roots, area, v).map_err(
+                |cycle| Refusal::PositiveCycle(cycle.atom),
+            )
         }
     }
 }

@@ -72,7 +72,13 @@ fn stray_bit(counts: Counts, candidate: &[u64]) -> Result<(), Refusal>
 }
 
 // Refusals 3, 9, 15, 16.
-pub fn tests(counts: Counts, plan: u32, stamp: u32, candidate: &[u64], l: Lengths) -> Result<(), Refusal>
+pub fn tests(
+    counts: Counts,
+    plan: u32,
+    stamp: u32,
+    candidate: &[u64],
+    l: Lengths,
+) -> Result<(), Refusal>
     requires { l.candidate ≡ length candidate.now }
     ensures { (T : Tables) → Sizes T counts plan l → result ≡ tests T (record { stamp = stamp; words = candidate.now }) l.kept }
 {
