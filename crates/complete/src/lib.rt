@@ -235,7 +235,7 @@ fn lacks(counts: Counts, kept: &[u32], a: usize) -> bool
     node_truth::present(counts, kept, a) && kept[kept_laws::support_at(counts) + a] == 0
 }
 
-// The lowest atom from `from` on that is in the candidate and has no support, atom by atom.
+// The lowest atom from `from` on that is in the candidate and has no support, atom by atom; the number of atoms if there is none, as the definition `next_lacking` has it.
 fn next_single(counts: Counts, kept: &[u32], from: usize) -> usize
     requires { Limited counts × (from ≤ counts.atoms) × (used_by counts ≤ length kept.now) }
     ensures { result ≡ next_lacking counts kept.now from }

@@ -5,7 +5,7 @@ use std::fs::File;
 use std::io;
 use std::io::{ErrorKind, Read};
 
-// What a name opens: a file, or nothing that can be read.
+// What a name opens: a file, or nothing that can be read. An enum of its own, since the library's trait `Read` cannot be given to the library's Result.
 #[derive(Drop)]
 enum Opened {
     File(File),

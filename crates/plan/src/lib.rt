@@ -28,7 +28,7 @@ pub struct Lengths {
     pub work: usize,
 }
 
-// Refusal 9.
+// Refusal 9, of these buffers; those of a check (`tests`) are others, at other places.
 fn short_buffer(counts: Counts, l: Lengths) -> Result<(), Refusal>
     requires { Limited counts }
     ensures { result ≡ short_buffer counts l }

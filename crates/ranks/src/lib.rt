@@ -84,7 +84,7 @@ fn body_order(
     }
 }
 
-// Refusal 14 of one root, which may make no producer.
+// Refusal 14 of one root, which may make no producer: two arms for that, as the proof of one for both did not close.
 fn produced_order(
     counts: Counts,
     area: &[u32],

@@ -173,7 +173,7 @@ fn pass_nodes<P: Pass>(counts: Counts, nodes: &[u32], operands: &[u32], table: &
     }
 }
 
-// The entries that p producers make. Each is four words, the second its body + 1, or 0 without body.
+// The entries that p producers make. Each is four words, the second its body + 1, or 0 without body; a producer's entry has its index.
 fn pass_producers<P: Pass>(producers: &[u32], p: usize, table: &mut [u64])
     requires { (4 * p ≤ length producers.now) × FitsAll P.room P.after (joined (producer_items producers.now) 0 p) table.old }
     ensures { table.new ≡ passed_all P.after (joined (producer_items producers.now) 0 p) table.old }

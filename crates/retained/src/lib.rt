@@ -42,7 +42,7 @@ pub fn include(
     Ok(())
 }
 
-// i becomes none.
+// i becomes none: the converse, with the other bound and the other sign at each line.
 pub fn exclude(
     kept: &mut [u32],
     at: usize,
@@ -158,7 +158,7 @@ fn regroup(counts: Counts, kept: &mut [u32], q: usize, rest: u32)
     }
 }
 
-// The lowest member of word q comes first, after node k; false if the word has none or it is not above k.
+// The lowest member of word q comes first, after node k; Err if the word has none or it is not above k.
 fn advance(counts: Counts, kept: &mut [u32], k: usize, q: usize) -> Result<(), OutOfRange>
     requires { Limited counts × (q < words32 counts.nodes) × (used_by counts ≤ length kept.old) × (get_or kept.old 5 0 ≡ k) × (0 < get_or kept.old 4 0) }
     ensures { (T : Tables) → Wrote (sized counts T) kept.old (advanced_to (sized counts T) q (of_words (sized counts T) kept.old)) result kept.new }
@@ -241,7 +241,7 @@ pub fn root(counts: Counts, kept: &mut [u32], p: usize, holds: bool) -> Result<(
     turn(kept, at, 3, counts.roots, p, !holds)
 }
 
-// Atom a is missing or not.
+// Atom a is missing or not; `root` has another set, count and bound, and names another field of the evaluation.
 pub fn missing(counts: Counts, kept: &mut [u32], a: usize, lacking: bool) -> Result<(), OutOfRange>
     requires { Limited counts × (a < counts.atoms) × (used_by counts ≤ length kept.old) }
     ensures { (T : Tables) → Wrote (sized counts T) kept.old (missing_turned (sized counts T) a lacking (of_words (sized counts T) kept.old)) result kept.new }
