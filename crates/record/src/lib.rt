@@ -69,15 +69,15 @@ pub fn mark_at(file: &[u8], at: usize) -> Mark
     requires { at + 2 ≤ length file.now }
     ensures { result ≡ mark_at file.now at }
 {
-    match (file[at], file[at + 1]) {
-        (b'T', b'H') => Mark::Theory,
-        (b'R', b'T') => Mark::Root,
-        (b'C', b'A') => Mark::Candidate,
-        (b'N', b'A') => Mark::Atom,
-        (b'N', b'F') => Mark::False,
-        (b'N', b'I') => Mark::Implies,
-        (b'N', b'C') => Mark::And,
-        (b'N', b'D') => Mark::Or,
+    match &[file[at], file[at + 1]] {
+        b"TH" => Mark::Theory,
+        b"RT" => Mark::Root,
+        b"CA" => Mark::Candidate,
+        b"NA" => Mark::Atom,
+        b"NF" => Mark::False,
+        b"NI" => Mark::Implies,
+        b"NC" => Mark::And,
+        b"ND" => Mark::Or,
         _ => Mark::Unknown,
     }
 }
