@@ -3,34 +3,24 @@
 
 use std::fs::File;
 use std::io;
-use std::io::{ErrorKind, Read};
+use std::io::Read;
 
-// What a name opens: a file, or nothing that can be read. An enum of its own, since the library's trait `Read` cannot be given to the library's Result.
+// What a name opens: a file, or why it is not open, which each read tells.
 #[derive(Drop)]
-enum Opened {
-    File(File),
-    Failed(ErrorKind),
-}
+struct Opened(io::Result<File>);
 
 impl Read for Opened {
     fn read(&mut self, buf: &mut [u8]) -> io::Result<usize> {
-        match self {
-            Opened::File(file) => file.read(buf),
-            Opened::Failed(kind) => Err(io::Error::from(*kind)),
+        match &mut self.0 {
+            Ok(file) => file.read(buf),
+            Err(e) => Err(io::Error::from(e.kind())),
         }
-    }
-}
-
-fn open(rt: &HostRuntime, name: &str) -> Opened {
-    match File::open(rt, name) {
-        Ok(file) => Opened::File(file),
-        Err(e) => Opened::Failed(e.kind()),
     }
 }
 
 fn show(rt: &HostRuntime, name: &str) -> io::Result<()> {
     println!(rt; "== {name}")?;
-    let mut input = open(rt, name);
+    let mut input = Opened(File::open(rt, name));
     console::answer(rt, &mut input, &mut io::writer(rt));
     Ok(())
 }

@@ -1,4 +1,4 @@
-// Where the sections of a kept evaluation begin in its words; beside it, without code, what the loops of a check keep and what holds of a check on any words.
+// Where the sections of a kept evaluation begin in its words, and a change that an entry out of its table stops; beside it, without code, what the loops of a check keep and what holds of a check on any words.
 #![tactic(auto)]
 
 ghost use Rattle.std.specs.Prelude.{◌≡◌};

@@ -28,7 +28,7 @@ pub struct Lengths {
     pub work: usize,
 }
 
-// Refusal 9, of these buffers; those of a check (`tests`) are others, at other places.
+// Refusal 9.
 fn short_buffer(counts: Counts, l: Lengths) -> Result<(), Refusal>
     requires { Limited counts }
     ensures { result ≡ short_buffer counts l }
@@ -111,9 +111,8 @@ fn judge(
         Some(given) => ranks::rank_check(counts, nodes, operands, roots, given, area, n),
         None => {
             let v = counts.atoms + n;
-            dependency::derive_ranks(counts, nodes, operands, roots, area, v).map_err(
-                |cycle| Refusal::PositiveCycle(cycle.atom),
-            )
+            let ranked = dependency::derive_ranks(counts, nodes, operands, roots, area, v);
+            ranked.map_err(|cycle| Refusal::PositiveCycle(cycle.atom))
         }
     }
 }

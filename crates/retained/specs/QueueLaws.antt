@@ -244,11 +244,14 @@ module _ (T : Tables) (ws : List ℕ) (long : used T ≤ length ws) where
 
   module _ (m first : ℕ) (is : first ≡ get_or ws 5 0) where
     -- the first was at the number of nodes, or above it
-    pub queue_alone : m < first → first ≡ node_count T → Wrote T ws (entered T m e) done (set ws 5 m)
-    queue_alone l n = rw (eq-eqb (get_or ws 5 0) (node_count T) (sym is ∙ n)) at (queue_first m (omega (arith, is)) (omega (arith, is, n)))
+    pub queue_alone : m < first → node_count T ≤ first → Wrote T ws (entered T m e) (cond (eqb first (node_count T)) done out_of_range) (set ws 5 m)
+    queue_alone l n = rw is (queue_first m (omega (arith, is)) (omega (arith, is)))
+
+    pub queue_only : m < first → first ≡ node_count T → Wrote T ws (entered T m e) done (set ws 5 m)
+    queue_only l n = rw (eq-eqb first (node_count T) n) at (queue_alone l (omega (arith, n)))
 
     pub queue_astray : m < first → node_count T ≤ first → (first ≡ node_count T → ⊥) → Wrote T ws (entered T m e) out_of_range (set ws 5 m)
-    queue_astray l n ne = rw (ne_eqb (get_or ws 5 0) (node_count T) (λ z. ne (is ∙ z))) at (queue_first m (omega (arith, is)) (omega (arith, is)))
+    queue_astray l n ne = rw (ne_eqb first (node_count T) ne) at (queue_alone l n)
 
     -- the other of the two goes on
     module _ (other : ℕ) (mid : List ℕ) (ok : Changing) (after : List ℕ) (h : Wrote T mid (other_behind T m other (of_words T mid)) ok after) where

@@ -138,7 +138,7 @@ pub fn queue(counts: Counts, kept: &mut [u32], m: usize) -> Result<(), OutOfRang
     put_behind(counts, kept, m, other)
 }
 
-// The first word from q on that has members by the groups.
+// The first word from q on that has members by the groups: a number if there is none too, as the definition `next` has it.
 fn next_group(counts: Counts, kept: &[u32], q: usize) -> usize
     requires { Limited counts × (q < counts.nodes) × (used_by counts ≤ length kept.now) }
     ensures { (T : Tables) → result ≡ next 32 (of_words (sized counts T) kept.now).worklist.groups q }

@@ -23,7 +23,7 @@ pub struct Lengths {
     pub kept: usize,
 }
 
-// Refusal 9, of these buffers; those of a plan are others, at other places.
+// Refusal 9.
 fn short_buffer(counts: Counts, l: Lengths) -> Result<(), Refusal>
     requires { Limited counts }
     ensures { result ≡ first_short (buffers_by counts l) }

@@ -2,7 +2,7 @@ use native.Mathlib.Omega.{arith}
 use mathlib.Core.Path.{ap, ◌∙◌}
 use lib.ListN.{length, length-set}
 use Rattle.kept_laws.specs.Given.{sized}
-use Rattle.retained.specs.QueueLaws.{queue_same, queue_alone, queue_astray, queue_before, queue_after}
+use Rattle.retained.specs.QueueLaws.{queue_same, queue_only, queue_astray, queue_before, queue_after}
 use borrow.Author.Rules.{rules}
 use Rattle.retained.proofs.queue.Goals as goal
 use Rattle.retained.proofs.queue.Goals.{then-m-first+else-m-first-2+else-first-counts, else-m-first}
@@ -11,7 +11,7 @@ pub returns-then-m-first-2 : goal.returns-then-m-first-2
 returns-then-m-first-2 c = λ T. queue_same (sized c.args.counts T) c.args.kept.now c.requires.2 c.args.m (c.if-m-first-2.true ∙ c.word-first.ensures.value)
 
 pub returns-then-first-counts-2 : goal.returns-then-first-counts-2
-returns-then-first-counts-2 c = λ T. queue_alone (sized c.args.counts T) c.args.kept.now c.requires.2 c.args.m _ c.word-first.ensures.value (omega (arith, c.if-m-first.true, c.if-m-first-2.false)) c.if-first-counts-2.true
+returns-then-first-counts-2 c = λ T. queue_only (sized c.args.counts T) c.args.kept.now c.requires.2 c.args.m _ c.word-first.ensures.value (omega (arith, c.if-m-first.true, c.if-m-first-2.false)) c.if-first-counts-2.true
 
 pub returns-else-first-counts-2 : goal.returns-else-first-counts-2
 returns-else-first-counts-2 c = λ T. queue_astray (sized c.args.counts T) c.args.kept.now c.requires.2 c.args.m _ c.word-first.ensures.value (omega (arith, c.if-m-first.true, c.if-m-first-2.false)) c.if-first-counts.true c.if-first-counts-2.false
