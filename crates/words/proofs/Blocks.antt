@@ -16,7 +16,7 @@ use Rattle.words.specs.Bit.{bit}
 use Rattle.words.specs.Block.{AllZero}
 use Rattle.words.specs.Next.{next}
 use Rattle.words.specs.BitLaws.{bit-zero, bit_or_lem, bit_power, one_shift, trailing_is}
-use Rattle.words.specs.NextLaws.{next-skip}
+use Rattle.words.specs.NextLaws.{next-skip, next-hit}
 
 -- the digits of x below k tell which of the words from `first` on are not 0, and no other is set
 pub record Marked (ws : List ℕ) (first k x : ℕ) : Type 0 where
@@ -68,9 +68,12 @@ module _ (ws : List ℕ) (q n x : ℕ) (d : (k : ℕ) → k < n → bit x k ≡ 
   unfolding t
   marked_there = eqb-false _ _ (not-true _ (sym (d t marked_found) ∙ (trailing_is n x).here (omega (arith, marked_found))))
 
-  pub marked_next : (w : ℕ) → 0 < w → q + n ≤ length ws → next w ws (w * q) ≡ next w ws (w * (q + count_trailing_zeros n x))
+  pub marked_next : (w : ℕ) → 0 < w → q + n ≤ length ws → get_or ws (q + count_trailing_zeros n x) 0 < 2 ^ w
+      → next w ws (w * q) ≡ w * (q + count_trailing_zeros n x) + count_trailing_zeros w (get_or ws (q + count_trailing_zeros n x) 0)
   unfolding t
-  marked_next w p h = next-skip w ws p q (q + t) (omega arith) (omega (arith, marked_found)) zeros
+  marked_next w p h s =
+      next-skip w ws p q (q + t) (omega arith) (omega (arith, marked_found)) zeros
+      ∙ next-hit w ws (q + t) p (omega (arith, marked_found)) s marked_there
 
 -- ---- the or of the words from `first` up to q
 

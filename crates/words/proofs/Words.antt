@@ -103,11 +103,16 @@ module _ {X : Type 0} (w : ℕ) (number : X → ℕ) (numbers : List X → List 
     block_times b = let l : i ≤ length ws = omega (arith, block_in) in omega (arith, mul-le-mul_left w l, b)
 
     module _ (x : X) (r : ℕ) (is : x ≡ get_or ws (q + count_trailing_zeros 32 m) x) (value : r ≡ number x) (fits : r < 2 ^ w) where
-      ne : r ≡ 0 → ⊥
-      ne z = marked_there (numbers ws) q 32 m marks some (sym (read i x r is value block_in) ∙ z)
+      pub block_some : r ≡ 0 → ⊥
+      block_some z = marked_there (numbers ws) q 32 m marks some (sym (read i x r is value block_in) ∙ z)
 
       pub block_hit : next w (numbers ws) (w * q) ≡ w * (q + count_trailing_zeros 32 m) + count_trailing_zeros 64 r
-      block_hit = marked_next (numbers ws) q 32 m marks some w some_bits (rw (laws.as_many ws) l) ∙ hit i x r is value block_in fits ne
+      block_hit =
+          marked_next (numbers ws) q 32 m marks some w some_bits (rw (laws.as_many ws) l) (rw (← here) fits)
+          ∙ ap (λ (t : ℕ). w * i + t) (ap (count_trailing_zeros w) (sym here) ∙ sym (trailing_wider w 64 r (omega (arith, block_some)) fits laws.most))
+        where
+          here : r ≡ get_or (numbers ws) i 0
+          here = read i x r is value block_in
 
       pub block_fits : w * length ws < 2 ^ 64 → w * (q + count_trailing_zeros 32 m) + count_trailing_zeros 64 r < 2 ^ 64
-      block_fits = hit_fits i x r is value block_in fits ne
+      block_fits = hit_fits i x r is value block_in fits block_some

@@ -38,7 +38,7 @@ pub fn next<W: Word>(words: &[W], from: usize) -> usize
     if rest == 0 {
         return next_word(words, q + 1);
     }
-    from + rest.trailing_zeros() as usize
+    from + W::lowest(rest) as usize
 }
 
 // The same from the start of word `first` on. What stands near is found word by word, by loads as wide as the stores just made there;
@@ -67,7 +67,7 @@ fn next_far<W: Word>(words: &[W], first: usize) -> usize
         let q = first + 32 * k;
         if !block_empty(words, q) {
             let i = q + nonzeros(words, q).trailing_zeros() as usize;
-            return W::BITS * i + words[i].wide().trailing_zeros() as usize;
+            return W::BITS * i + W::lowest(words[i].wide()) as usize;
         }
     }
     within(words, first + 32 * blocks, words.len()).unwrap_or(W::BITS * words.len())
@@ -83,7 +83,7 @@ fn within<W: Word>(words: &[W], first: usize, end: usize) -> Option<usize>
     for q in first..end {
         let x = words[q].wide();
         if x != 0 {
-            return Some(W::BITS * q + x.trailing_zeros() as usize);
+            return Some(W::BITS * q + W::lowest(x) as usize);
         }
     }
     None

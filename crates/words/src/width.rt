@@ -1,6 +1,7 @@
 // What words of 32 and of 64 bits have in common.
 ghost use Rattle.std.specs.Prelude.{◌≡◌, ℕ, ◌/◌, ◌^◌, ◌<◌, List};
 ghost use Rattle.std.proofs.Common.{lit≤};
+ghost use Rattle.std.specs.Int.Count.{count_trailing_zeros};
 ghost use Rattle.words.specs.WordLaws.{WordLaws, plain};
 
 pub trait Word: Copy {
@@ -25,6 +26,12 @@ pub trait Word: Copy {
         ensures value { result ≡ number self / 2 ^ k }
         ensures fits { number self < 2 ^ BITS };
 
+    // The lowest set place of what a word is, or is without its lowest digits.
+    fn lowest(rest: u64) -> u32
+        requires fits { rest < 2 ^ BITS }
+        requires some { rest ≡ 0 → ⊥ }
+        ensures { result ≡ count_trailing_zeros 64 rest };
+
     ghost laws: { WordLaws BITS number numbers };
 }
 
@@ -46,6 +53,11 @@ impl Word for u32 {
     fn rest(self, k: usize) -> u64 {
         (self >> k) as u64
     }
+
+    // By its own width's trailing zeros: the worklist's search has other code with the leaf `bits`.
+    fn lowest(rest: u64) -> u32 {
+        (rest as u32).trailing_zeros()
+    }
 }
 
 impl Word for u64 {
@@ -65,5 +77,9 @@ impl Word for u64 {
 
     fn rest(self, k: usize) -> u64 {
         self >> k
+    }
+
+    fn lowest(rest: u64) -> u32 {
+        crate::bits(rest, 0)
     }
 }

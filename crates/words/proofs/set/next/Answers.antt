@@ -14,4 +14,4 @@ pub overflow_add-result : goal.overflow_add-result
 overflow_add-result g c = omega (arith, here_fits _ _ _ g.met.W.Word.laws c.args.words.now c.args.from _ _ (rw c.BITS.ensures at c.index-words-q.is) (rw c.BITS-2.ensures at c.rest-rest.ensures.value) (rw c.BITS.ensures at c.if-words-q.false) c.rest-rest.ensures.fits c.if-rest-eq0.false c.requires.from_bound c.requires.words_bound)
 
 pub returns : goal.returns
-returns g c = sym (here _ _ _ g.met.W.Word.laws c.args.words.now c.args.from _ _ (rw c.BITS.ensures at c.index-words-q.is) (rw c.BITS-2.ensures at c.rest-rest.ensures.value) (rw c.BITS.ensures at c.if-words-q.false) c.rest-rest.ensures.fits c.if-rest-eq0.false)
+returns g c = rw c.lowest.ensures (sym (here _ _ _ g.met.W.Word.laws c.args.words.now c.args.from _ _ (rw c.BITS.ensures at c.index-words-q.is) (rw c.BITS-2.ensures at c.rest-rest.ensures.value) (rw c.BITS.ensures at c.if-words-q.false) c.rest-rest.ensures.fits c.if-rest-eq0.false))
