@@ -1,4 +1,5 @@
 pub mod Buffers
+pub mod Filled
 pub mod Prepared
 pub mod Written
 pub mod Judged

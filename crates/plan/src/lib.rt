@@ -1,7 +1,8 @@
 // The planner's public calls: everything is judged in the work area alone, then buffers 4, 5 and 6 are written.
 #![tactic(auto)]
 
-ghost use Rattle.std.specs.Prelude.{◌≡◌, ◌+◌, ◌*◌, ◌≤◌, length, drop, ◌++◌, option_copied};
+ghost use Rattle.std.specs.Prelude.{◌≡◌, ◌+◌, ◌*◌, ◌≤◌, length, take, drop, ◌++◌, option_copied};
+ghost use Rattle.base.specs.Front.{front};
 ghost use Rattle.theory.specs.Limits.{limits_of, Limited};
 ghost use Rattle.theory.specs.Admission.{or_else, admission};
 ghost use Rattle.theory.specs.WellFormed.{NodeTables, RootTable};
@@ -117,6 +118,16 @@ fn judge(
     }
 }
 
+// The first n words of the source, to the front of the buffer. A loop, since with copy_from_slice the archive for C needs memmove from outside.
+fn copy(buffer: &mut [u32], source: &[u32], n: usize)
+    requires { (n ≤ length buffer.old) × (n ≤ length source.now) }
+    ensures { buffer.new ≡ front (take n source.now) buffer.old }
+{
+    for i in 0..n {
+        buffer[i] = source[i];
+    }
+}
+
 // Buffers 4, 5 and 6 of an accepted theory, its ranks at the front of source; answers the number of producers.
 fn finish(
     counts: Counts,
@@ -136,7 +147,7 @@ fn finish(
     let p = compile::extract(counts, nodes, operands, roots, classes, producers);
     readers::build(counts, nodes, operands, roots, producers, p, readers);
     let n = counts.atoms;
-    ranks[..n].copy_from_slice(&source[..n]);
+    copy(ranks, source, n);
     p
 }
 

@@ -1,5 +1,3 @@
-use lib.Seq.{length-take-le}
-use Rattle.base.specs.Front.{front}
 use Rattle.plan.specs.Written.{written-planned}
 use Rattle.plan.proofs.finish.Goals as goal
 
@@ -7,5 +5,4 @@ pub build-requires : goal.build-requires
 build-requires c = (written-planned c.args.counts c.args.nodes.now c.args.operands.now c.args.classes.now c.args.roots.now c.args.producers.now c.requires.limited.0 c.requires.limited.1 c.requires.limited.2 c.requires.roots_in_bounds.0 _ c.extract-p.new.table c.extract-p.ensures.value c.extract-p.auto.table c.extract-p.ensures.table_after, c.requires.roots_in_bounds.2)
 
 pub returns : goal.returns
-unfolding front
-returns c = record { number = c.extract-p.ensures.value; producers = c.extract-p.ensures.table_after; ranks = rw (c.copy_from_slice.ensures.after, length-take-le c.args.counts.atoms c.args.source.now c.requires.limited.4); readers = c.build.ensures }
+returns c = record { number = c.extract-p.ensures.value; producers = c.extract-p.ensures.table_after; ranks = c.copy.ensures; readers = c.build.ensures }
