@@ -206,6 +206,7 @@ fn admit_roots(counts: Counts, roots: &[u32]) -> Result<(), Refusal>
 }
 
 // Refusals 1, 6, 4, 5 node by node, then 7 root by root, of tables within the limits that are as long as the counts say.
+#[tactic(auto, using(base::specs::Raised::raised), unfolding(crate::specs::Admission::admission))]
 pub fn admit(counts: Counts, nodes: &[u32], operands: &[u32], roots: &[u32]) -> Result<(), Refusal>
     requires { Limited counts × Lent counts (length nodes.now) (length operands.now) (length roots.now) }
     ensures { result ≡ admission counts nodes.now operands.now roots.now }

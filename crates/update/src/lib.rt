@@ -64,12 +64,15 @@ pub fn walk(
     let readers = &readers[..];
     let mut n = gone;
     loop {
-        match step::step(counts, made, nodes, operands, producers, readers, kept)? {
-            None => {
+        match step::step(counts, made, nodes, operands, producers, readers, kept) {
+            Ok(None) => {
                 return told(verdict::judge(counts, roots, kept), n);
             }
-            Some(_) => {
+            Ok(Some(_)) => {
                 n += 1;
+            }
+            Err(r) => {
+                return Err(r);
             }
         }
     }
