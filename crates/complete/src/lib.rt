@@ -321,6 +321,8 @@ fn summarize(
 }
 
 // A check of the candidate by all nodes rising, then producers, then roots.
+// A function of its own, as the walk is: laid into `tight_check` its loop's speed goes by where the linker lays that.
+#[inline(never)]
 pub fn complete(
     counts: Counts,
     made: usize,
