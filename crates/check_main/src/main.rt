@@ -104,13 +104,15 @@ fn show_change(rt: &impl Print, atoms: usize, word: u64, changed: usize) -> io::
         roots: 0,
     };
     let nodes = [0u32, 0, 0, 0, 1, 0];
+    // tables of which nothing is listed, with a word each
+    let none = [0u32; 1];
     let mut readers = [0u64; 537];
     let _ = plan::plan(
         counts,
         &nodes,
-        &[],
-        &[],
-        &mut [],
+        &none,
+        &none,
+        &mut [0u32; 1],
         &mut [0u32; 527],
         &mut readers,
         &mut [0u32; 2667],
@@ -119,9 +121,9 @@ fn show_change(rt: &impl Print, atoms: usize, word: u64, changed: usize) -> io::
         counts,
         plan: by(7, 0),
         nodes: &nodes,
-        operands: &[],
-        roots: &[],
-        producers: &[],
+        operands: &none,
+        roots: &none,
+        producers: &none,
         readers: &readers,
     };
     let mut kept = [0u32; 1601];
