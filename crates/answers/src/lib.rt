@@ -26,7 +26,10 @@ fn pack_refusal(r: Refusal) -> u64
     ensures { result ≡ refusal_word r }
 {
     let told = text::numbers_of(r);
-    pack(told.number, told.place, told.body.unwrap_or(0))
+    match told.body {
+        Some(body) => pack(told.number, told.place, body),
+        None => pack(told.number, told.place, 0),
+    }
 }
 
 // Of a planning call: the number of producers, or the refusal.
